@@ -1,0 +1,9 @@
+-- Finite sums of whole numbers.
+--     sum n f            f 0 + f 1 + … + f (n - 1)
+-- Assumes nothing.
+use Prim.Native.Nat.{ℕ, zero, suc}
+use lib.IntN.{ℤ, pos, _+ℤ_}
+
+unfoldable pub sum : ℕ → (ℕ → ℤ) → ℤ
+sum zero f = pos 0
+sum (suc n) f = sum n f +ℤ f n

@@ -1,0 +1,4 @@
+pub mod Spelling
+pub mod Windows
+pub mod Headers
+pub mod Coefficients
