@@ -2,3 +2,6 @@ pub mod Spelling
 pub mod Windows
 pub mod Headers
 pub mod Coefficients
+pub mod Reading
+pub mod Same
+pub mod RoundTrip

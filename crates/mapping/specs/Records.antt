@@ -6,8 +6,11 @@
 --     header-of bs       the fields that stand at the header's places in bytes
 --     record-faults bs   the refusals of bytes, each with its condition, in their order
 --     record-fault bs    the refusal that is given, if any
+--     Parsed bs r        what reading bytes comes to: the mapping that they are the record of, or the refusal
+--     Filled bs p q r    the place, which held p, holds the mapping that bytes are the record of, or is untouched at a refusal
 -- Assumes nothing.
 use Prim.Native.Nat.{ℕ, _+_, _*_}
+use mathlib.Core.Path.{_≡_}
 use mathlib.Core.Bool.{Bool}
 use mathlib.Core.List.{List, [], _∷_, _++_}
 use lib.Dec.{ltb}
@@ -16,8 +19,11 @@ use lib.ListN.{length, take}
 use mir.Syntax.{w32}
 use mir.Val.{ofZ}
 use Rattle.std.specs.declared.option.Option.{Option}
+use Rattle.std.specs.declared.option.Option.the-variants.{Some, None}
+use Rattle.std.specs.declared.result.Result.{Result}
+use Rattle.std.specs.declared.result.Result.the-variants.{Ok, Err}
 use Rattle.std.specs.shelf.Lists.{joined}
-use Rattle.mapping.specs.Bits.{spell, field}
+use Rattle.mapping.specs.Bits.{spell, bits-of, field}
 use Rattle.mapping.specs.Terms.{terms}
 use Rattle.mapping.specs.Kinds.{kind-number}
 use Rattle.mapping.specs.Listed.{first-listed}
@@ -61,3 +67,11 @@ record-faults bs = (ltb (length bs) 3, Short) ∷ header-faults (header-of bs) (
 
 unfoldable pub record-fault : List ℕ → Option RecordFault
 record-fault bs = first-listed (record-faults bs)
+
+abbrev pub Parsed : List ℕ → Result Mapping RecordFault → Type 0
+Parsed bs (Ok m) = (record-fault bs ≡ None) × (bits-of bs ≡ record-bits m)
+Parsed bs (Err f) = record-fault bs ≡ Some f
+
+abbrev pub Filled : List ℕ → Mapping → Mapping → Result (Unit {0}) RecordFault → Type 0
+Filled bs before after (Ok x) = bits-of bs ≡ record-bits after
+Filled bs before after (Err f) = after ≡ before

@@ -7,9 +7,17 @@ ghost use lib.ListN.{length, getD, take};
 ghost use lib.Signed.{mag};
 ghost use Rattle.std.specs.declared.result.Result.the-variants.{Ok, Err};
 ghost use Rattle.mapping.specs.Unread.{unread};
-ghost use Rattle.mapping.specs.Records.{value-bits};
+ghost use Rattle.std.specs.declared.option.Option.the-variants.{Some, None};
+ghost use Rattle.mapping.specs.Bits.{bits-of};
+ghost use Rattle.mapping.specs.Listed.{outcome};
+ghost use Rattle.mapping.specs.Records.{value-bits, record-bits, record-fault, Parsed, Filled};
 use crate::bits::BitFault;
+use crate::fault::RecordFault;
+use crate::fault::RecordFaultFromBits;
+use crate::header::Header;
+use crate::kind::Kind;
 use crate::mapping::MOST_TERMS;
+use crate::mapping::Mapping;
 use crate::reader::BitReader;
 
 /// The next `count` coefficients, with zeros behind them.
@@ -22,4 +30,34 @@ fn coefficients(bits: &mut BitReader, count: usize) -> Result<[i32; 64], BitFaul
         values[k] = bits.take(32)?.cast_signed();
     }
     Ok(values)
+}
+
+/// The mapping that `bytes` are the record of.
+fn parse(bytes: &[u8]) -> Result<Mapping, RecordFault>
+    ensures value { λ r. ⌜ Parsed (now (bytes .entry)) r ⌝ }
+{
+    let mut bits = BitReader::new(bytes);
+    let header = Header::read(&mut bits)?;
+    header.check(bytes.len())?;
+    let values = coefficients(&mut bits, header.terms())?;
+    let Some(kind) = Kind::from_number(header.kind) else {
+        unreachable()
+    };
+    Ok(Mapping {
+        inputs: header.inputs,
+        degrees: header.degrees,
+        kind,
+        shift: header.shift,
+        coefficients: values,
+    })
+}
+
+/// Reads a record into `place`. A refusal leaves the place as it was.
+pub fn read(bytes: &[u8], place: &mut Mapping) -> Result<(), RecordFault>
+    ensures value { λ r. ⌜ r ≡ outcome tt (record-fault (now (bytes .entry))) ⌝ }
+    ensures after { λ r. ⌜ Filled (now (bytes .entry)) (now (place .entry)) (now (place .exit)) r ⌝ }
+    ensures back { λ r. ⌜ ((m : Mapping) → bits-of (now (bytes .entry)) ≡ record-bits m → (r ≡ Ok tt) × (now (place .exit) ≡ m)) ⌝ }
+{
+    *place = parse(bytes)?;
+    Ok(())
 }
