@@ -5,3 +5,4 @@ pub mod Coefficients
 pub mod Reading
 pub mod Same
 pub mod RoundTrip
+pub mod Writing

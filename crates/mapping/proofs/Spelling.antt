@@ -7,10 +7,10 @@ use native.Mathlib.Numerals.{add-one}
 use native.Mathlib.Omega.{arith}
 use lib.ListN.{length, take, drop, getD, length-append}
 use lib.Pow.{pow-pos}
-use Rattle.std.specs.shelf.Lists.{joined, All}
+use Rattle.std.specs.shelf.Lists.{joined}
 use Rattle.std.proofs.shelf.Lists.{drop-more, take-at, drop-at}
 use Rattle.std.proofs.shelf.Bits.{shr-shr, shr-high, shr-split, mod-pow-add}
-use Rattle.mapping.specs.Bits.{spell, number, bits-of, field}
+use Rattle.mapping.specs.Bits.{spell, number, bits-of, field, Bytes}
 
 pub length-spell : (k v : ℕ) → length (spell k v) ≡ k
 unfolding spell
@@ -30,6 +30,10 @@ spell-high (suc k) x v =
     let top : (x * 2 ^ suc k + v) / 2 ^ k % 2 ≡ v / 2 ^ k % 2 = rw (e, h) (omega arith) in
     let rest : spell k (x * 2 ^ suc k + v) ≡ spell k v = ap (spell k) e ∙ spell-high k (2 * x) v in
     ap (λ b. b ∷ spell k (x * 2 ^ suc k + v)) top ∙ ap (λ r. (v / 2 ^ k % 2) ∷ r) rest
+
+-- so only the lowest bits matter
+pub spell-mod : (k v : ℕ) → spell k (v % 2 ^ k) ≡ spell k v
+spell-mod k v = sym (spell-high k (v / 2 ^ k) (v % 2 ^ k)) ∙ ap (spell k) (shr-split v k)
 
 -- a field of a + b bits is one of a bits and then one of b
 pub spell-append : (a b x y : ℕ) → y < 2 ^ b → spell (a + b) (x * 2 ^ b + y) ≡ spell a x ++ spell b y
@@ -89,7 +93,7 @@ length-bits-of [] = refl
 length-bits-of (b ∷ bs) = length-append (spell 8 b) (bits-of bs) ∙ ap (λ n. n + length (bits-of bs)) (length-spell 8 b) ∙ ap (λ n. 8 + n) (length-bits-of bs) ∙ omega arith
 
 -- bytes are told by their bits
-pub same-bytes : (cs bs : List ℕ) → All (λ b. b < 256) cs → All (λ b. b < 256) bs → length cs ≡ length bs → bits-of cs ≡ bits-of bs → cs ≡ bs
+pub same-bytes : (cs bs : List ℕ) → Bytes cs → Bytes bs → length cs ≡ length bs → bits-of cs ≡ bits-of bs → cs ≡ bs
 same-bytes [] [] p q l e = refl
 same-bytes [] (b ∷ bs) p q l e = absurd (omega arith)
 same-bytes (a ∷ cs) [] p q l e = absurd (omega arith)
@@ -105,3 +109,23 @@ field-is bs pre post p k v e l h =
     ∙ ap (λ b. number (take k b)) (drop-at pre (spell k v ++ post) p l)
     ∙ ap number (take-at (spell k v) post k (length-spell k v))
     ∙ number-spell k v h
+
+-- the bytes of a number, the most significant first
+abbrev pub bytes-of : ℕ → ℕ → List ℕ
+bytes-of zero v = []
+bytes-of (suc n) v = (v / 2 ^ (8 * n) % 256) ∷ bytes-of n v
+
+-- as many bytes as a field has are the field's bits
+pub spell-bytes : (n v : ℕ) → bits-of (bytes-of n v) ≡ spell (8 * n) v
+unfolding bits-of spell
+spell-bytes zero v = refl
+spell-bytes (suc n) v =
+    let k = 8 * n in
+    let parts = spell-append 8 k (v / 2 ^ k) (v % 2 ^ k) (mod-lt v (pow-pos k)) in
+    let more : 8 + 8 * n ≡ 8 * suc n = omega arith in
+    bits-of-cons (v / 2 ^ k % 256) (bytes-of n v)
+    ∙ ap (λ r. r ++ bits-of (bytes-of n v)) (spell-mod 8 (v / 2 ^ k))
+    ∙ ap (λ r. spell 8 (v / 2 ^ k) ++ r) (spell-bytes n v ∙ sym (spell-mod k v))
+    ∙ sym parts
+    ∙ ap (λ x. spell (8 + k) x) (shr-split v k)
+    ∙ ap (λ x. spell x v) more

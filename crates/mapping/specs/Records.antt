@@ -8,14 +8,17 @@
 --     record-fault bs    the refusal that is given, if any
 --     Parsed bs r        what reading bytes comes to: the mapping that they are the record of, or the refusal
 --     Filled bs p q r    the place, which held p, holds the mapping that bytes are the record of, or is untouched at a refusal
+--     written m n        what writing into n bytes answers: the record's size, or the refusal where it does not fit
+--     Written m p q r    the buffer, which held p, begins with the record and goes on as before, or is untouched at a refusal
+--     Begins bs q r      the buffer now begins with just these bytes, where something was written
 -- Assumes nothing.
 use Prim.Native.Nat.{ℕ, _+_, _*_}
 use mathlib.Core.Path.{_≡_}
-use mathlib.Core.Bool.{Bool}
+use mathlib.Core.Bool.{Bool, cond}
 use mathlib.Core.List.{List, [], _∷_, _++_}
 use lib.Dec.{ltb}
 use lib.IntN.{ℤ}
-use lib.ListN.{length, take}
+use lib.ListN.{length, take, drop}
 use mir.Syntax.{w32}
 use mir.Val.{ofZ}
 use Rattle.std.specs.declared.option.Option.{Option}
@@ -32,6 +35,8 @@ use Rattle.mapping.specs.declared.header.Header.{Header}
 use Rattle.mapping.specs.declared.mapping.Mapping.{Mapping}
 use Rattle.mapping.specs.declared.fault.RecordFault.{RecordFault}
 use Rattle.mapping.specs.declared.fault.RecordFault.the-variants.{Short}
+use Rattle.mapping.specs.declared.fault.WriteFault.{WriteFault}
+use Rattle.mapping.specs.declared.fault.WriteFault.the-variants.{SmallBuffer}
 
 abbrev pub header-for : Mapping → Header
 header-for m = record {
@@ -75,3 +80,14 @@ Parsed bs (Err f) = record-fault bs ≡ Some f
 abbrev pub Filled : List ℕ → Mapping → Mapping → Result (Unit {0}) RecordFault → Type 0
 Filled bs before after (Ok x) = bits-of bs ≡ record-bits after
 Filled bs before after (Err f) = after ≡ before
+
+abbrev pub written : Mapping → ℕ → Result ℕ WriteFault
+written m n = cond (ltb n (record-size m)) (Err SmallBuffer) (Ok (record-size m))
+
+abbrev pub Written : Mapping → List ℕ → List ℕ → Result ℕ WriteFault → Type 0
+Written m before after (Ok n) = (bits-of (take n after) ≡ record-bits m) × (drop n after ≡ drop n before)
+Written m before after (Err f) = after ≡ before
+
+abbrev pub Begins : List ℕ → List ℕ → Result ℕ WriteFault → Type 0
+Begins bs after (Ok n) = take n after ≡ bs
+Begins bs after (Err f) = Unit {0}

@@ -4,7 +4,6 @@ ghost use mathlib.Core.Path.{_≡_};
 ghost use mathlib.Core.List.{_++_};
 ghost use lib.ListN.{length};
 ghost use Rattle.std.specs.declared.result.Result.the-variants.{Ok, Err};
-ghost use Rattle.mapping.specs.Terms.{terms};
 ghost use Rattle.mapping.specs.Unread.{unread};
 ghost use Rattle.mapping.specs.Listed.{first-listed, outcome};
 ghost use Rattle.mapping.specs.Headers.{header-bits, Fits-header, header-faults};
@@ -13,9 +12,10 @@ use crate::fault::RecordFault;
 use crate::header::Header;
 use crate::mapping::MOST_TERMS;
 use crate::reader::BitReader;
+use crate::terms::count_terms;
 
-/// The format that is read.
-const FORMAT: u8 = 1;
+/// The format of a record.
+pub(crate) const FORMAT: u8 = 1;
 
 /// Bytes of a header, and of a coefficient.
 pub(crate) const HEADER: usize = 3;
@@ -44,14 +44,6 @@ impl Header {
         })
     }
 
-    /// How many coefficients follow.
-    pub(crate) fn terms(&self) -> usize
-        ensures value { λ r. ⌜ r ≡ terms (now (self .entry) .degrees) ⌝ }
-    {
-        let [first, second, third] = self.degrees;
-        (first as usize + 1) * ((second as usize + 1) * (third as usize + 1))
-    }
-
     /// The first fault of a header in a record of `bytes` bytes.
     pub(crate) fn check(&self, bytes: usize) -> Result<(), RecordFault>
         ensures value { λ r. ⌜ r ≡ outcome tt (first-listed (header-faults (now (self .entry)) bytes)) ⌝ }
@@ -69,7 +61,7 @@ impl Header {
         if self.zeros != 0 {
             return Err(RecordFault::ZeroBits);
         }
-        let terms = self.terms();
+        let terms = count_terms(self.degrees);
         if terms > MOST_TERMS {
             return Err(RecordFault::TooMany);
         }

@@ -9,3 +9,5 @@ pub mod mapping;
 pub mod numbers;
 mod reader;
 pub mod record;
+mod terms;
+pub mod writer;

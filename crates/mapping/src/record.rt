@@ -19,6 +19,7 @@ use crate::kind::Kind;
 use crate::mapping::MOST_TERMS;
 use crate::mapping::Mapping;
 use crate::reader::BitReader;
+use crate::terms::count_terms;
 
 /// The next `count` coefficients, with zeros behind them.
 fn coefficients(bits: &mut BitReader, count: usize) -> Result<[i32; 64], BitFault>
@@ -39,7 +40,7 @@ fn parse(bytes: &[u8]) -> Result<Mapping, RecordFault>
     let mut bits = BitReader::new(bytes);
     let header = Header::read(&mut bits)?;
     header.check(bytes.len())?;
-    let values = coefficients(&mut bits, header.terms())?;
+    let values = coefficients(&mut bits, count_terms(header.degrees))?;
     let Some(kind) = Kind::from_number(header.kind) else {
         unreachable()
     };

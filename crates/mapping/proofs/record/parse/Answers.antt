@@ -42,7 +42,7 @@ returns-in-Break-values c =
     let bits : bits-of bs ≡ header-bits h ++ rest = sym (c .new-bits .ensures .value) ∙ got .1 in
     let a = accepted-from h (length bs) (passed-from tt tt _ (sym (c .in-Continue-check .ensures tt .value))) in
     let long : length (bits-of bs) ≡ 24 + length rest = ap length bits ∙ length-append (header-bits h) rest ∙ ap (λ n. n + length rest) (length-header h) in
-    absurd (omega (arith, a .size, length-bits-of bs, c .terms .ensures .value, c .in-Break-values .ensures tt .value))
+    absurd (omega (arith, a .size, length-bits-of bs, c .count-terms .ensures .value, c .in-Break-values .ensures tt .value))
 
 pub returns : need.returns
 returns c =
@@ -54,7 +54,7 @@ returns c =
     let passed = passed-from tt tt _ (sym (c .in-Continue-check .ensures tt .value)) in
     let a = accepted-from h (length bs) passed in
     let values : rest ≡ value-bits (take (terms (h .degrees)) (c .in-Continue-values .values)) ++ unread (c .coefficients .last .bits) =
-      c .in-Continue-values .ensures tt .value .0 ∙ ap (λ n. value-bits (take n (c .in-Continue-values .values)) ++ unread (c .coefficients .last .bits)) (c .terms .ensures .value) in
+      c .in-Continue-values .ensures tt .value .0 ∙ ap (λ n. value-bits (take n (c .in-Continue-values .values)) ++ unread (c .coefficients .last .bits)) (c .count-terms .ensures .value) in
     record { value =
       (header-decides bs rest h (got .0) bits ∙ passed
       , record-parsed _ h bs (unread (c .coefficients .last .bits))
