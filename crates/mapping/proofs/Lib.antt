@@ -6,3 +6,4 @@ pub mod Reading
 pub mod Same
 pub mod RoundTrip
 pub mod Writing
+pub mod Halving

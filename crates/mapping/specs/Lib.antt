@@ -6,3 +6,5 @@ pub mod Faults
 pub mod Listed
 pub mod Headers
 pub mod Records
+pub mod Cells
+pub mod Points

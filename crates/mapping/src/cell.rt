@@ -1,6 +1,7 @@
 // The cell: a dyadic part of the input box.
 ghost use Prim.Native.Nat.{ℕ, _^_, _<_, _≤_};
-ghost use lib.ListN.{getD};
+ghost use mathlib.Core.Path.{_≡_};
+ghost use lib.ListN.{length, getD};
 
 /// How deep an input may be halved.
 pub const DEEPEST: u8 = 10;
@@ -16,6 +17,8 @@ pub struct Shape {
 #[derive(Clone, Copy, PartialEq, Eq, Debug)]
 pub struct Cell {
     pub shape: Shape,
+    ghost depths3: { length (shape .depths) ≡ 3 },
+    ghost places3: { length (shape .places) ≡ 3 },
     ghost shallow: { (v : ℕ) → v < 3 → getD (shape .depths) v 0 ≤ 10 },
     ghost inside: { (v : ℕ) → v < 3 → getD (shape .places) v 0 < 2 ^ getD (shape .depths) v 0 },
 }

@@ -1,5 +1,6 @@
 // What is checked: mappings, the cells of their input box, registers, and the record that a mapping comes in.
 pub mod bits;
+pub mod boxes;
 pub mod cell;
 pub mod fault;
 mod fields;
