@@ -7,3 +7,5 @@ pub mod Same
 pub mod RoundTrip
 pub mod Writing
 pub mod Halving
+pub mod Exponents
+pub mod Steps

@@ -8,3 +8,6 @@ pub mod Headers
 pub mod Records
 pub mod Cells
 pub mod Points
+pub mod Registers
+pub mod Polynomials
+pub mod Values

@@ -10,5 +10,6 @@ pub mod mapping;
 pub mod numbers;
 mod reader;
 pub mod record;
+pub mod register;
 mod terms;
 pub mod writer;
