@@ -1,14 +1,14 @@
 -- Sums and products in the order of ℤ. Assumes nothing.
-use mathlib.Core.Path.{_≡_, refl, sym, ap, subst, _∙_}
+use mathlib.Core.Path.{_≡_, refl, sym, subst}
 use mathlib.Core.Logic.{_⊎_, inl, inr}
-use Prim.Native.Nat.{ℕ, zero, suc, _+_, _*_, _≤_, _<_}
+use Prim.Native.Nat.{ℕ, suc, _+_, _*_, _≤_, _<_}
 use native.Mathlib.Nat.{mul-le-mul-left}
 use native.Mathlib.Omega.{arith}
 use lib.IntN.{ℤ, pos, negsuc, negℤ, _+ℤ_, _*ℤ_, *ℤ-comm}
 use lib.Signed.{_≤ℤ_, _<ℤ_}
 use borrow.Author.Differences.{up, down, le-out, lt-out}
 use Rattle.std.proofs.shelf.Signed.{by-ltZ}
-use Rattle.arith.proofs.Ring.{lin, scale-is, neg-*ℤ, *ℤ-neg}
+use Rattle.arith.proofs.Ring.{lin, neg-*ℤ}
 
 pub le-trans : {a b c : ℤ} → a ≤ℤ b → b ≤ℤ c → a ≤ℤ c
 le-trans {a} {b} {c} h k = omega (arith, lin)
@@ -70,9 +70,9 @@ pub mul-le-cancel : (c : ℕ) {a b : ℤ} → 0 < c → (pos c *ℤ a) ≤ℤ (p
 mul-le-cancel c {a} {b} p h =
     by-ltZ b a
     (λ (l : b <ℤ a).
-      let s : suc (up b + down a) ≤ up a + down b = lt-out b a l in
-      let m : c * suc (up b + down a) ≤ c * (up a + down b) = mul-le-mul-left c s in
-      absurd (omega (arith, lin)))
+    let s : suc (up b + down a) ≤ up a + down b = lt-out b a l in
+    let m : c * suc (up b + down a) ≤ c * (up a + down b) = mul-le-mul-left c s in
+    absurd (omega (arith, lin)))
     (λ k. k)
 
 pub mul-same-cancel : (c : ℕ) {a b : ℤ} → 0 < c → pos c *ℤ a ≡ pos c *ℤ b → a ≡ b

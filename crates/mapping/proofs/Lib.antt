@@ -9,3 +9,5 @@ pub mod Writing
 pub mod Halving
 pub mod Exponents
 pub mod Steps
+pub mod Bounds
+pub mod Homogeneous
