@@ -10,5 +10,4 @@ unfoldable pub quot-down : ℤ → ℕ → ℤ
 quot-down z m = shrZ z m
 
 unfoldable pub quot-up : ℤ → ℕ → ℤ
-unfolding quot-down
 quot-up z m = negℤ (quot-down (negℤ z) m)
