@@ -1,2 +1,11 @@
 pub mod Rules
 pub mod Pairs
+pub mod Choose
+pub mod Halving
+pub mod Tables
+pub mod Polynomial
+pub mod Sides
+pub mod Arrays
+pub mod Bernstein
+pub mod Nested
+pub mod Worked

@@ -1,0 +1,104 @@
+-- The tables, the enclosure and the slack read only the coefficients a i j k with i ≤ n1, j ≤ n2, k ≤ n3. Assumes nothing.
+use mathlib.Core.Path.{_≡_, sym, ap, ap₂, _∙_}
+use Prim.Native.Nat.{ℕ, zero, suc, _*_, _≤_}
+use native.Mathlib.Omega.{arith}
+use lib.IntN.{ℤ, pos, natAbs, _+ℤ_}
+use Rattle.arith.specs.Rounding.{quot-down, quot-up}
+use Rattle.std.specs.Numbers.{minZ, maxZ}
+use Rattle.forms.specs.Choose.{factorial}
+use Rattle.forms.specs.Halving.{Row, mean-down, mean-up, kept, deep}
+use Rattle.forms.specs.Polynomial.{Table, weighed}
+use Rattle.forms.specs.Tables.{first, halved, low-table, high-table, least, greatest, least-of, greatest-of, low, high, sizes, pairs, ones, loss, slack}
+use Rattle.forms.proofs.Halving.{kept-keep, deep-keep}
+use Rattle.forms.proofs.Weighed.{weighed-reads}
+use Rattle.forms.proofs.Tables.{weights, first-is, low-is, high-is, slack-sizes}
+
+-- two tables with the same numbers up to n1, n2, n3
+abbrev pub Alike : ℕ → ℕ → ℕ → Table → Table → Type 0
+Alike n1 n2 n3 S T = (i j k : ℕ) → i ≤ n1 → j ≤ n2 → k ≤ n3 → S i j k ≡ T i j k
+
+pub kept-reads : (f : ℤ → ℤ → ℤ) (n b : ℕ) (r s : Row) → ((k : ℕ) → k ≤ n → r k ≡ s k) → (k : ℕ) → k ≤ n → kept f n b r k ≡ kept f n b s k
+kept-reads f n b r s h k l = kept-keep (λ x y. x ≡ y) f f (λ a b x y p q. ap₂ f p q) n b r s h k l
+
+pub deep-reads : (f : ℤ → ℤ → ℤ) (n d p : ℕ) (r s : Row) → ((k : ℕ) → k ≤ n → r k ≡ s k)
+    → (k : ℕ) → k ≤ n → deep (kept f n) d p r k ≡ deep (kept f n) d p s k
+deep-reads f n d p r s h k l = deep-keep (λ d x y. x ≡ y) (kept f n) (kept f n) n (λ d b r s q i j. kept-reads f n b r s q i j) r s h d p k l
+
+pub first-reads : (q : ℤ → ℕ → ℤ) (n1 n2 n3 : ℕ) (a b : Table) → Alike n1 n2 n3 a b → (i j k : ℕ) → first q n1 n2 n3 a i j k ≡ first q n1 n2 n3 b i j k
+first-reads q n1 n2 n3 a b h i j k =
+    sym (first-is q n1 n2 n3 a i j k)
+    ∙ ap (λ z. q z (factorial n1 * (factorial n2 * factorial n3))) (weighed-reads n1 n2 n3 a b (weights n1 i) (weights n2 j) (weights n3 k) h)
+    ∙ first-is q n1 n2 n3 b i j k
+
+pub halved-reads : (f : ℤ → ℤ → ℤ) (n1 n2 n3 d1 p1 d2 p2 d3 p3 : ℕ) (S T : Table) → Alike n1 n2 n3 S T
+    → Alike n1 n2 n3 (halved f n1 n2 n3 d1 p1 d2 p2 d3 p3 S) (halved f n1 n2 n3 d1 p1 d2 p2 d3 p3 T)
+unfolding halved
+halved-reads f n1 n2 n3 d1 p1 d2 p2 d3 p3 S T h i j k a b c =
+    deep-reads f n3 d3 p3 (λ z. deep (kept f n2) d2 p2 (λ y. deep (kept f n1) d1 p1 (λ x. S x y z) i) j)
+      (λ z. deep (kept f n2) d2 p2 (λ y. deep (kept f n1) d1 p1 (λ x. T x y z) i) j)
+      (λ z zl. deep-reads f n2 d2 p2 (λ y. deep (kept f n1) d1 p1 (λ x. S x y z) i) (λ y. deep (kept f n1) d1 p1 (λ x. T x y z) i)
+        (λ y yl. deep-reads f n1 d1 p1 (λ x. S x y z) (λ x. T x y z) (λ x xl. h x y z xl yl zl) i a) j b) k c
+
+-- ---- the enclosure
+
+pub least-reads : (n : ℕ) (r s : Row) → ((k : ℕ) → k ≤ n → r k ≡ s k) → least n r ≡ least n s
+unfolding least
+least-reads zero r s h = h 0 (omega arith)
+least-reads (suc n) r s h = ap₂ minZ (least-reads n r s (λ k l. h k (omega arith))) (h (suc n) (omega arith))
+
+pub greatest-reads : (n : ℕ) (r s : Row) → ((k : ℕ) → k ≤ n → r k ≡ s k) → greatest n r ≡ greatest n s
+unfolding greatest
+greatest-reads zero r s h = h 0 (omega arith)
+greatest-reads (suc n) r s h = ap₂ maxZ (greatest-reads n r s (λ k l. h k (omega arith))) (h (suc n) (omega arith))
+
+pub least-of-reads : (n1 n2 n3 : ℕ) (S T : Table) → Alike n1 n2 n3 S T → least-of n1 n2 n3 S ≡ least-of n1 n2 n3 T
+unfolding least-of
+least-of-reads n1 n2 n3 S T h =
+    least-reads n1 (λ i. least n2 λ j. least n3 (S i j)) (λ i. least n2 λ j. least n3 (T i j)) λ i il.
+      least-reads n2 (λ j. least n3 (S i j)) (λ j. least n3 (T i j)) λ j jl.
+        least-reads n3 (S i j) (T i j) λ k kl. h i j k il jl kl
+
+pub greatest-of-reads : (n1 n2 n3 : ℕ) (S T : Table) → Alike n1 n2 n3 S T → greatest-of n1 n2 n3 S ≡ greatest-of n1 n2 n3 T
+unfolding greatest-of
+greatest-of-reads n1 n2 n3 S T h =
+    greatest-reads n1 (λ i. greatest n2 λ j. greatest n3 (S i j)) (λ i. greatest n2 λ j. greatest n3 (T i j)) λ i il.
+      greatest-reads n2 (λ j. greatest n3 (S i j)) (λ j. greatest n3 (T i j)) λ j jl.
+        greatest-reads n3 (S i j) (T i j) λ k kl. h i j k il jl kl
+
+module _ (n1 n2 n3 : ℕ) (a b : Table) (h : Alike n1 n2 n3 a b) where
+
+  pub low-table-reads : (d1 p1 d2 p2 d3 p3 : ℕ) → Alike n1 n2 n3 (low-table n1 n2 n3 a d1 p1 d2 p2 d3 p3) (low-table n1 n2 n3 b d1 p1 d2 p2 d3 p3)
+  unfolding low-table
+  low-table-reads d1 p1 d2 p2 d3 p3 =
+      halved-reads mean-down n1 n2 n3 d1 p1 d2 p2 d3 p3 (first quot-down n1 n2 n3 a) (first quot-down n1 n2 n3 b) (λ i j k _ _ _. first-reads quot-down n1 n2 n3 a b h i j k)
+
+  pub high-table-reads : (d1 p1 d2 p2 d3 p3 : ℕ) → Alike n1 n2 n3 (high-table n1 n2 n3 a d1 p1 d2 p2 d3 p3) (high-table n1 n2 n3 b d1 p1 d2 p2 d3 p3)
+  unfolding high-table
+  high-table-reads d1 p1 d2 p2 d3 p3 =
+      halved-reads mean-up n1 n2 n3 d1 p1 d2 p2 d3 p3 (first quot-up n1 n2 n3 a) (first quot-up n1 n2 n3 b) (λ i j k _ _ _. first-reads quot-up n1 n2 n3 a b h i j k)
+
+  pub low-reads : (d1 p1 d2 p2 d3 p3 : ℕ) → low n1 n2 n3 a d1 p1 d2 p2 d3 p3 ≡ low n1 n2 n3 b d1 p1 d2 p2 d3 p3
+  low-reads d1 p1 d2 p2 d3 p3 =
+      sym (low-is n1 n2 n3 a d1 p1 d2 p2 d3 p3)
+      ∙ least-of-reads n1 n2 n3 (low-table n1 n2 n3 a d1 p1 d2 p2 d3 p3) (low-table n1 n2 n3 b d1 p1 d2 p2 d3 p3) (low-table-reads d1 p1 d2 p2 d3 p3)
+      ∙ low-is n1 n2 n3 b d1 p1 d2 p2 d3 p3
+
+  pub high-reads : (d1 p1 d2 p2 d3 p3 : ℕ) → high n1 n2 n3 a d1 p1 d2 p2 d3 p3 ≡ high n1 n2 n3 b d1 p1 d2 p2 d3 p3
+  high-reads d1 p1 d2 p2 d3 p3 =
+      sym (high-is n1 n2 n3 a d1 p1 d2 p2 d3 p3)
+      ∙ greatest-of-reads n1 n2 n3 (high-table n1 n2 n3 a d1 p1 d2 p2 d3 p3) (high-table n1 n2 n3 b d1 p1 d2 p2 d3 p3) (high-table-reads d1 p1 d2 p2 d3 p3)
+      ∙ high-is n1 n2 n3 b d1 p1 d2 p2 d3 p3
+
+  sizes-alike : Alike n1 n2 n3 (sizes a) (sizes b)
+  sizes-alike i j k l m o = ap (λ z. pos (natAbs z)) (h i j k l m o)
+
+  pub slack-reads : (d1 d2 d3 : ℕ) → slack n1 n2 n3 a d1 d2 d3 ≡ slack n1 n2 n3 b d1 d2 d3
+  slack-reads d1 d2 d3 =
+      slack-sizes n1 n2 n3 a d1 d2 d3
+      ∙ ap (λ s. pos 1 +ℤ (loss n1 d1 s +ℤ (loss n2 d2 (weighed n1 n2 n3 (sizes a) ones pairs ones) +ℤ loss n3 d3 (weighed n1 n2 n3 (sizes a) ones ones pairs))))
+          (weighed-reads n1 n2 n3 (sizes a) (sizes b) pairs ones ones sizes-alike)
+      ∙ ap (λ s. pos 1 +ℤ (loss n1 d1 (weighed n1 n2 n3 (sizes b) pairs ones ones) +ℤ (loss n2 d2 s +ℤ loss n3 d3 (weighed n1 n2 n3 (sizes a) ones ones pairs))))
+          (weighed-reads n1 n2 n3 (sizes a) (sizes b) ones pairs ones sizes-alike)
+      ∙ ap (λ s. pos 1 +ℤ (loss n1 d1 (weighed n1 n2 n3 (sizes b) pairs ones ones) +ℤ (loss n2 d2 (weighed n1 n2 n3 (sizes b) ones pairs ones) +ℤ loss n3 d3 s)))
+          (weighed-reads n1 n2 n3 (sizes a) (sizes b) ones ones pairs sizes-alike)
+      ∙ sym (slack-sizes n1 n2 n3 b d1 d2 d3)

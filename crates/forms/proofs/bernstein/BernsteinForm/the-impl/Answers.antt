@@ -1,0 +1,5 @@
+use Rattle.forms.proofs.BernsteinSound.{bernstein-rules}
+use Rattle.forms.proofs.bernstein.BernsteinForm.the-impl.Needs as need
+
+pub sound-law : need.sound-law
+sound-law f = bernstein-rules
