@@ -1,0 +1,12 @@
+pub mod Register
+pub mod Cells
+pub mod Corners
+pub mod Hulls
+pub mod Regions
+pub mod Refused
+pub mod Sound
+pub mod Since
+pub mod Promise
+pub mod Tables
+pub mod States
+pub mod Replies

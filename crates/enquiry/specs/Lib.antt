@@ -1,0 +1,10 @@
+pub mod Refusals
+pub mod InRegister
+pub mod CellOf
+pub mod Corners
+pub mod States
+pub mod Steps
+pub mod Runs
+pub mod Honest
+pub mod Views
+pub mod Transcripts
