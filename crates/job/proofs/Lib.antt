@@ -1,2 +1,3 @@
 pub mod Inputs
-pub mod Listing
+pub mod Steps
+pub mod Transcripts

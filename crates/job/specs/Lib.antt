@@ -1,2 +1,5 @@
 pub mod Loading
-pub mod Showing
+pub mod Calls
+pub mod Lines
+pub mod Spelled
+pub mod Answering

@@ -1,7 +1,7 @@
-//! The range checker's program: standard input to standard output.
-use job::line::LineDisplay;
+//! The range checker's program: a job from standard input, its answers to standard output.
+use job::answer::answer;
 use job::load::MOST_INPUT;
-use job::show::show;
+use job::spelling::LineDisplay;
 use std::error::AnyError;
 use std::io::Read;
 
@@ -10,7 +10,7 @@ fn main(rt: LibcRuntime) -> Result<(), AnyError> {
     let heap = rt.alloc();
     let mut input = Vec::new(heap);
     rt.stdin().take(MOST_INPUT as u64 + 1).read_to_end(&mut input)?;
-    for line in show(heap, &input)?.iter() {
+    for line in answer(heap, &input)?.iter() {
         println!(rt, "{line}")?;
     }
     Ok(())
