@@ -53,5 +53,5 @@ pub in-box : (p : Point) → Rational p → In p box
 in-box p r v h =
     subst (λ d. Covers d (place box v) (p .numerator v) (p .denominator)) (sym (zeros v))
     (subst (λ q. Covers 0 q (p .numerator v) (p .denominator)) (sym (zeros v))
-      (subst (λ (w : ℕ). (0 * p .denominator ≤ p .numerator v * w) × (p .numerator v * w ≤ (0 + 1) * p .denominator)) (sym (pow-zero 2))
-        (omega arith, omega (arith, r .1 v h))))
+    (subst (λ (w : ℕ). (0 * p .denominator ≤ p .numerator v * w) × (p .numerator v * w ≤ (0 + 1) * p .denominator)) (sym (pow-zero 2))
+    (omega arith, omega (arith, r .1 v h))))

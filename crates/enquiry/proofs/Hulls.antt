@@ -39,17 +39,17 @@ module _ (P : Answer → Type 0) where
 
   -- the same along a list of regions
   rows-all : ((x y : Answer) → P x → P y → P (join x y)) → (rows : List Row) (h : Option Answer)
-    → Cases h (Unit {0}) P → All (λ r. P (answer-of r)) rows → Cases (folded (λ h r. join-on h (answer-of r)) h rows) (Unit {0}) P
+      → Cases h (Unit {0}) P → All (λ r. P (answer-of r)) rows → Cases (folded (λ h r. join-on h (answer-of r)) h rows) (Unit {0}) P
   rows-all f [] h p q = p
   rows-all f (r ∷ rows) h p q = rows-all f rows (join-on h (answer-of r)) (on-all f h (answer-of r) p (q .0)) (q .1)
 
   rows-left : ((x y : Answer) → P x → P (join x y)) → (rows : List Row) (h : Option Answer)
-    → Cases h ⊥ P → Cases (folded (λ h r. join-on h (answer-of r)) h rows) ⊥ P
+      → Cases h ⊥ P → Cases (folded (λ h r. join-on h (answer-of r)) h rows) ⊥ P
   rows-left f [] h p = p
   rows-left f (r ∷ rows) h p = rows-left f rows (join-on h (answer-of r)) (on-left f h (answer-of r) p)
 
   rows-one : ((x y : Answer) → P x → P (join x y)) → ((x y : Answer) → P y → P (join x y)) → (rows : List Row) (h : Option Answer)
-    → (k : ℕ) → k < length rows → P (answer-of (getD rows k no-row)) → Cases (folded (λ h r. join-on h (answer-of r)) h rows) ⊥ P
+      → (k : ℕ) → k < length rows → P (answer-of (getD rows k no-row)) → Cases (folded (λ h r. join-on h (answer-of r)) h rows) ⊥ P
   rows-one f g [] h k l p = absurd (omega arith)
   rows-one f g (r ∷ rows) h zero l p = rows-left f rows (join-on h (answer-of r)) (on-right g h (answer-of r) p)
   rows-one f g (r ∷ rows) h (suc k) l p = rows-one f g rows (join-on h (answer-of r)) k (omega arith) p
@@ -63,7 +63,7 @@ module _ (P : Answer → Type 0) where
   hull-cleared f s p = rows-left f (s .rows) (s .cleared) p
 
   pub hull-row : ((x y : Answer) → P x → P (join x y)) → ((x y : Answer) → P y → P (join x y)) → (s : State)
-    → (k : ℕ) → k < length (s .rows) → P (answer-of (getD (s .rows) k no-row)) → Cases (hull s) ⊥ P
+      → (k : ℕ) → k < length (s .rows) → P (answer-of (getD (s .rows) k no-row)) → Cases (hull s) ⊥ P
   unfolding hull
   hull-row f g s k l p = rows-one f g (s .rows) (s .cleared) k l p
 
@@ -143,11 +143,11 @@ high-second l k s t h = omega (arith, lin, clamps)
 pub near-join : (m : Mapping) (x y : Answer) → Near m x → Near m y → Near m (join x y)
 near-join m x y a b = record {
   low = ⊎-elim
-    (λ (h : x .low ≤ℤ y .low). (a .low .0, a .low .1, at-most-weaker m (a .low .0) _ _ (low-first (x .low) (y .low) (x .slack) (y .slack) h) (a .low .2)))
-    (λ (h : y .low ≤ℤ x .low). (b .low .0, b .low .1, at-most-weaker m (b .low .0) _ _ (low-second (x .low) (y .low) (x .slack) (y .slack) h) (b .low .2)))
-    (total (x .low) (y .low));
+      (λ (h : x .low ≤ℤ y .low). (a .low .0, a .low .1, at-most-weaker m (a .low .0) _ _ (low-first (x .low) (y .low) (x .slack) (y .slack) h) (a .low .2)))
+      (λ (h : y .low ≤ℤ x .low). (b .low .0, b .low .1, at-most-weaker m (b .low .0) _ _ (low-second (x .low) (y .low) (x .slack) (y .slack) h) (b .low .2)))
+      (total (x .low) (y .low));
   high = ⊎-elim
-    (λ (h : x .high ≤ℤ y .high). (b .high .0, b .high .1, at-least-weaker m (b .high .0) _ _ (high-second (x .high) (y .high) (x .slack) (y .slack) h) (b .high .2)))
-    (λ (h : y .high ≤ℤ x .high). (a .high .0, a .high .1, at-least-weaker m (a .high .0) _ _ (high-first (x .high) (y .high) (x .slack) (y .slack) h) (a .high .2)))
-    (total (x .high) (y .high));
+      (λ (h : x .high ≤ℤ y .high). (b .high .0, b .high .1, at-least-weaker m (b .high .0) _ _ (high-second (x .high) (y .high) (x .slack) (y .slack) h) (b .high .2)))
+      (λ (h : y .high ≤ℤ x .high). (a .high .0, a .high .1, at-least-weaker m (a .high .0) _ _ (high-first (x .high) (y .high) (x .slack) (y .slack) h) (a .high .2)))
+      (total (x .high) (y .high));
 }

@@ -65,9 +65,9 @@ module _ (ask : Mapping → Cell → Answer) (rules : Rules ask) (m : Mapping) w
 
   -- after one more call: the reports from the next state on, with one in front where the call asked for it
   each-call : (P : List Report → Type 0) (s : State) (c : Call) (cs : List Call)
-    → P (following (reply ask m s c .1) cs)
-    → (P (following s cs) → P (report m s ∷ following s cs))
-    → P (following s (c ∷ cs))
+      → P (following (reply ask m s c .1) cs)
+      → (P (following s cs) → P (report m s ∷ following s cs))
+      → P (following s (c ∷ cs))
   unfolding replies after reply
   each-call P s (call.Halve i n) cs p q = subst (λ rs. P (rs ++ report m (after ask m (halve ask m s i n .1) cs) ∷ [])) (sym (not-told Halved (λ x rs. refl) (halve ask m s i n .0) _)) p
   each-call P s (call.Clear i) cs p q = subst (λ rs. P (rs ++ report m (after ask m (clear m s i .1) cs) ∷ [])) (sym (not-told Cleared (λ x rs. refl) (clear m s i .0) _)) p
@@ -117,12 +117,16 @@ every-run-honest ask rules m calls =
   where
     sound : Sound m (opened ask m)
     sound = opened-sound ask rules m
+
     Both : Report → Report → Type 0
     Both e l = Inside e l × Settled e l
+
     every : List Report
     every = report m (opened ask m) ∷ following ask rules m (opened ask m) calls
+
     all : All (True-report m) every
     all = (report-true m (opened ask m) sound, all-true ask rules m (opened ask m) calls sound)
+
     pairs : Pairwise Both every
     pairs = (all-later ask rules m (report m (opened ask m)) (report-true m (opened ask m) sound) (opened ask m) calls sound (since-report m (opened ask m) sound), pairwise-later ask rules m (opened ask m) calls sound)
 

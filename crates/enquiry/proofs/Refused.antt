@@ -39,19 +39,19 @@ counted : (n s : ℕ) → (eqb n 0 || ltb s n) ≡ false → (1 ≤ n) × (n ≤
 counted n s e = (grind (arith, tells), grind (arith, tells))
 
 -- what is known of a halving that is not refused
-pub record Halves (m : Mapping) (s : State) (i n : ℕ) : Type 0 where
+pub record CanHalve (m : Mapping) (s : State) (i n : ℕ) : Type 0 where
   pub there : i < length (s .rows)
   pub input : (1 ≤ n) × (n ≤ m .inputs)
   pub shallow : depth (shape-of (region-at s i)) (n - 1) < 10
   pub room : length (s .rows) < 64
 
-pub halves : (m : Mapping) (s : State) (i n : ℕ) → first-listed (halve-refusals m s i n) ≡ None → Halves m s i n
-halves m s i n e =
+pub can-halve : (m : Mapping) (s : State) (i n : ℕ) → first-listed (halve-refusals m s i n) ≡ None → CanHalve m s i n
+can-halve m s i n e =
     let h = passed (halve-refusals m s i n) e in
     record { there = below _ _ (h .0); input = counted _ _ (h .1 .0); shallow = below _ _ (h .1 .1 .0); room = below _ _ (h .1 .1 .1 .0) }
 
-pub clears : (m : Mapping) (s : State) (i : ℕ) → first-listed (clear-refusals m s i) ≡ None → i < length (s .rows)
-clears m s i e = below _ _ (passed (clear-refusals m s i) e .0)
+pub can-clear : (m : Mapping) (s : State) (i : ℕ) → first-listed (clear-refusals m s i) ≡ None → i < length (s .rows)
+can-clear m s i e = below _ _ (passed (clear-refusals m s i) e .0)
 
 -- from what a check answered to what the call comes to
 module _ {T U : Type 0} (s : State) (r : T × State) (x : U) where

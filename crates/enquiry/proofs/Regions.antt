@@ -26,19 +26,22 @@ module _ (P : Row → Type 0) (rows : List Row) (i : ℕ) (l : i < length rows) 
   some-halved a b split (k, h, p) =
       ⊎-elim
       (λ (e : k ≡ i).
-        ⊎-elim
-        (λ (pa : P a). (i, in-front i l, subst P (sym (in-place a b)) pa))
-        (λ (pb : P b). (length rows, omega (arith, longer a b), subst P (sym (getD-push (set rows i a) b no-row (length rows) (length-set rows i a))) pb))
-        (split (subst (λ (j : ℕ). P (getD rows j no-row)) e p)))
+      ⊎-elim
+      (λ (pa : P a). (i, in-front i l, subst P (sym (in-place a b)) pa))
+      (λ (pb : P b). (length rows, omega (arith, longer a b), subst P (sym (getD-push (set rows i a) b no-row (length rows) (length-set rows i a))) pb))
+      (split (subst (λ (j : ℕ). P (getD rows j no-row)) e p)))
       (λ (ne : k ≡ i → ⊥). (k, in-front k h, subst P (sym (elsewhere a b k h ne)) p))
       (cases-eq k i)
     where
       longer : (a b : Row) → length (set rows i a ++ b ∷ []) ≡ length rows + 1
       longer a b = length-push (set rows i a) b ∙ ap (λ n. n + 1) (length-set rows i a)
+
       in-front : (j : ℕ) → j < length rows → j < length (set rows i a ++ b ∷ [])
       in-front j h = omega (arith, longer a b)
+
       in-place : (a b : Row) → getD (set rows i a ++ b ∷ []) i no-row ≡ a
       in-place a b = getD-append-left (set rows i a) (b ∷ []) no-row i (omega (arith, length-set rows i a)) ∙ getD-set-same rows i a no-row l
+
       elsewhere : (a b : Row) (j : ℕ) → j < length rows → (j ≡ i → ⊥) → getD (set rows i a ++ b ∷ []) j no-row ≡ getD rows j no-row
       elsewhere a b j h ne = getD-append-left (set rows i a) (b ∷ []) no-row j (omega (arith, length-set rows i a)) ∙ getD-set-other rows i j a no-row ne
 
@@ -53,19 +56,26 @@ module _ (P : Row → Type 0) (rows : List Row) (i : ℕ) (l : i < length rows) 
       ⊎-elim
       (λ (e : k ≡ i). inl (subst (λ (j : ℕ). P (getD rows j no-row)) e p))
       (λ (ne : k ≡ i → ⊥).
-        ⊎-elim
-        (λ (e : k ≡ length rows - 1).
-          inr (i, omega (arith, shorter),
-            subst P (sym (getD-take (length rows - 1) changed i no-row (omega arith) ∙ getD-set-same rows i (getD rows (length rows - 1) no-row) no-row l))
-            (subst (λ (j : ℕ). P (getD rows j no-row)) e p)))
-        (λ (nl : k ≡ length rows - 1 → ⊥).
-          inr (k, omega (arith, shorter),
-            subst P (sym (getD-take (length rows - 1) changed k no-row (omega arith) ∙ getD-set-other rows i k (getD rows (length rows - 1) no-row) no-row ne)) p))
-        (cases-eq k (length rows - 1)))
+      ⊎-elim
+      (λ (e : k ≡ length rows - 1).
+      inr (
+        i,
+        omega (arith, shorter),
+        subst P (sym (getD-take (length rows - 1) changed i no-row (omega arith) ∙ getD-set-same rows i (getD rows (length rows - 1) no-row) no-row l))
+            (subst (λ (j : ℕ). P (getD rows j no-row)) e p),
+      ))
+      (λ (nl : k ≡ length rows - 1 → ⊥).
+      inr (
+        k,
+        omega (arith, shorter),
+        subst P (sym (getD-take (length rows - 1) changed k no-row (omega arith) ∙ getD-set-other rows i k (getD rows (length rows - 1) no-row) no-row ne)) p,
+      ))
+      (cases-eq k (length rows - 1)))
       (cases-eq k i)
     where
       changed : List Row
       changed = set rows i (getD rows (length rows - 1) no-row)
+
       shorter : length (take (length rows - 1) (set rows i (getD rows (length rows - 1) no-row))) ≡ length rows - 1
       shorter =
           length-take (length rows - 1) (set rows i (getD rows (length rows - 1) no-row))

@@ -25,17 +25,17 @@ use Rattle.enquiry.specs.declared.run.Transcript.{Transcript}
 
 module _ (ask : Mapping → Cell → Answer) (m : Mapping) (s : State) (c : Call) where
   pub halve-reply : (i n : ℕ) → c ≡ call.Halve i n → (r : Result ℕ Refusal) (t : State)
-    → r ≡ halve ask m s i n .0 → t ≡ halve ask m s i n .1 → (told Halved r, t) ≡ reply ask m s c
+      → r ≡ halve ask m s i n .0 → t ≡ halve ask m s i n .1 → (told Halved r, t) ≡ reply ask m s c
   unfolding reply
   halve-reply i n e r t f g = ap₂ (λ x y. (told Halved x, y)) f g ∙ ap (reply ask m s) (sym e)
 
   pub clear-reply : (i : ℕ) → c ≡ call.Clear i → (r : Result ℕ Refusal) (t : State)
-    → r ≡ clear m s i .0 → t ≡ clear m s i .1 → (told Cleared r, t) ≡ reply ask m s c
+      → r ≡ clear m s i .0 → t ≡ clear m s i .1 → (told Cleared r, t) ≡ reply ask m s c
   unfolding reply
   clear-reply i e r t f g = ap₂ (λ x y. (told Cleared x, y)) f g ∙ ap (reply ask m s) (sym e)
 
   pub probe-reply : (i k : ℕ) → c ≡ call.Probe i k → (r : Result (ℤ × ℤ) Refusal) (t : State)
-    → r ≡ probe m s i k .0 → t ≡ probe m s i k .1 → (told ends-told r, t) ≡ reply ask m s c
+      → r ≡ probe m s i k .0 → t ≡ probe m s i k .1 → (told ends-told r, t) ≡ reply ask m s c
   unfolding reply
   probe-reply i k e r t f g = ap₂ (λ x y. (told ends-told x, y)) f g ∙ ap (reply ask m s) (sym e)
 
@@ -67,7 +67,7 @@ module _ (ask ask′ : Mapping → Cell → Answer) (m m′ : Mapping) (start s 
       ∙ ap (after ask m start) (sym (take-more calls i d l))
 
   pub replies-next : (rs rs′ : List Reply) (r : Reply) → rs ≡ replies ask m start (take i calls) → rs′ ≡ rs ++ r ∷ []
-    → r ≡ reply ask′ m′ s (getD calls i d) .0 → rs′ ≡ replies ask m start (take (i + 1) calls)
+      → r ≡ reply ask′ m′ s (getD calls i d) .0 → rs′ ≡ replies ask m start (take (i + 1) calls)
   replies-next rs rs′ r f g h =
       g ∙ ap₂ (λ xs x. xs ++ x ∷ []) f (h ∙ ap (λ x. x .0) next-reply)
       ∙ sym (replies-more ask m start (take i calls) (getD calls i d))
@@ -75,10 +75,10 @@ module _ (ask ask′ : Mapping → Cell → Answer) (m m′ : Mapping) (start s 
 
 -- a transcript that was taken along the whole list
 pub transcribed : (ask ask₀ : Mapping → Cell → Answer) (m m₀ m′ : Mapping) (start s : State) (calls : List Call) (i : ℕ) (t : Transcript)
-  → ask₀ ≡ ask → m₀ ≡ m → start ≡ opened ask m → t .opening ≡ report m₀ start → length calls ≤ i
-  → vec-items (t .replies) ≡ replies ask₀ m₀ start (take i calls)
-  → s ≡ after ask₀ m₀ start (take i calls) → m′ ≡ m₀ → t .closed ≡ close m′ s
-  → Transcribed ask m calls t
+    → ask₀ ≡ ask → m₀ ≡ m → start ≡ opened ask m → t .opening ≡ report m₀ start → length calls ≤ i
+    → vec-items (t .replies) ≡ replies ask₀ m₀ start (take i calls)
+    → s ≡ after ask₀ m₀ start (take i calls) → m′ ≡ m₀ → t .closed ≡ close m′ s
+    → Transcribed ask m calls t
 transcribed ask ask₀ m m₀ m′ start s calls i t a b e f l g h k p =
     let all : take i calls ≡ calls = take-all i calls l in
     record {

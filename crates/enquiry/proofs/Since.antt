@@ -37,7 +37,7 @@ use Rattle.enquiry.specs.declared.witness.Witness.{Witness}
 use Rattle.enquiry.proofs.Register.{in-from-ends, in-narrower}
 use Rattle.enquiry.proofs.Hulls.{on-all, Between, between-left, between-right, Holds, holds-left, holds-right, held-join, Near, near-join, hull-all, hull-cleared, hull-row, at-value, at-value-all}
 use Rattle.enquiry.proofs.Regions.{Some-row, all-halved, all-without}
-use Rattle.enquiry.proofs.Refused.{after-settle, halves, clears}
+use Rattle.enquiry.proofs.Refused.{after-settle, can-halve, can-clear}
 use Rattle.enquiry.proofs.Sound.{Holding, Sound}
 
 pub record True-report (m : Mapping) (r : Report) : Type 0 where
@@ -110,8 +110,8 @@ module _ (m : Mapping) (s : State) (ok : Sound m s) where
     low-near = hull-near .low;
     high-near = hull-near .high;
     fits-true = λ e p r.
-      let b = report-encloses p r in
-      in-from-ends m _ _ p (fits-told m (valueOr (hull s) no-answer) (s .witness) e) (b .0) (b .1);
+        let b = report-encloses p r in
+        in-from-ends m _ _ p (fits-told m (valueOr (hull s) no-answer) (s .witness) e) (b .0) (b .1);
     leaves-true = λ e. witness-point-of m (s .witness) (leaves-told m (valueOr (hull s) no-answer) (s .witness) e) (ok .outside);
   }
 
@@ -120,9 +120,9 @@ module _ (m : Mapping) (s : State) (ok : Sound m s) where
   unfolding report
   since-report = record {
     rows-inside = all-from-getD (λ x. Holds (valueOr (hull s) no-answer) (answer-of x)) (s .rows) no-row (λ k l.
-      let b = answer-of (region-at s k) in
-      at-value (λ a. Holds a b) (hull s) no-answer
-      (hull-row (λ a. Holds a b) (holds-left b) (holds-right b) s k l (≤ℤ-refl (b .low), ≤ℤ-refl (b .high))));
+        let b = answer-of (region-at s k) in
+        at-value (λ a. Holds a b) (hull s) no-answer
+        (hull-row (λ a. Holds a b) (holds-left b) (holds-right b) s k l (≤ℤ-refl (b .low), ≤ℤ-refl (b .high))));
     cleared-inside = cleared-held (s .cleared) refl;
     leaves = leaves-told m (valueOr (hull s) no-answer) (s .witness);
     fits = fits-told m (valueOr (hull s) no-answer) (s .witness);
@@ -173,8 +173,8 @@ module _ (m : Mapping) (r : Report) (s : State) (since : Since m r s) where
   halve-since ask i n =
       after-settle (Since m r) s (first-listed (halve-refusals m s i n)) (length (halved ask m s i n .rows), halved ask m s i n) since
       (λ e. record {
-        rows-inside = all-halved (λ x. Holds (range-of r) (answer-of x)) (s .rows) i (halves m s i n e .there) _ _
-          (inside (half-ask 0) (halves m s i n e .there)) (inside (half-ask 1) (halves m s i n e .there)) (since .rows-inside);
+        rows-inside = all-halved (λ x. Holds (range-of r) (answer-of x)) (s .rows) i (can-halve m s i n e .there) _ _
+            (inside (half-ask 0) (can-halve m s i n e .there)) (inside (half-ask 1) (can-halve m s i n e .there)) (since .rows-inside);
         cleared-inside = since .cleared-inside;
         leaves = since .leaves;
         fits = since .fits;
@@ -182,6 +182,7 @@ module _ (m : Mapping) (r : Report) (s : State) (since : Since m r s) where
     where
       half-ask : ℕ → Answer
       half-ask side = ask m (cell-of (half-row ask m (region-at s i) (n - 1) side .shape))
+
       inside : (a : Answer) → i < length (s .rows) → (r .low ≤ℤ maxZ (region-at s i .low) (a .low)) × (minZ (region-at s i .high) (a .high) ≤ℤ r .high)
       inside a l =
           let h = all-getD (λ x. Holds (range-of r) (answer-of x)) (s .rows) i no-row l (since .rows-inside) in
@@ -192,14 +193,14 @@ module _ (m : Mapping) (r : Report) (s : State) (since : Since m r s) where
   clear-since i =
       after-settle (Since m r) s (first-listed (clear-refusals m s i)) (length (cleared-of s i .rows), cleared-of s i) since
       (λ e.
-        let l = clears m s i e in
-        record {
-          rows-inside = all-without (λ x. Holds (range-of r) (answer-of x)) (s .rows) i l (since .rows-inside);
-          cleared-inside = on-all (Holds (range-of r)) (held-join (range-of r)) (s .cleared) (answer-of (region-at s i)) (since .cleared-inside)
+      let l = can-clear m s i e in
+      record {
+        rows-inside = all-without (λ x. Holds (range-of r) (answer-of x)) (s .rows) i l (since .rows-inside);
+        cleared-inside = on-all (Holds (range-of r)) (held-join (range-of r)) (s .cleared) (answer-of (region-at s i)) (since .cleared-inside)
             (all-getD (λ x. Holds (range-of r) (answer-of x)) (s .rows) i no-row l (since .rows-inside));
-          leaves = since .leaves;
-          fits = since .fits;
-        })
+        leaves = since .leaves;
+        fits = since .fits;
+      })
 
   still-some : (out : Bool) (old : Option Witness) (new : Witness) → isSome old ≡ true → isSome (first-witness out old new) ≡ true
   still-some out (Some w) new e = refl

@@ -47,7 +47,7 @@ use Rattle.forms.proofs.Corners.{corner-rational}
 use Rattle.enquiry.proofs.Corners.{corner-holds, witness-rational, witness-held}
 use Rattle.enquiry.proofs.Hulls.{on-all, on-left, on-right, Between, between-left, between-right, Near, near-join}
 use Rattle.enquiry.proofs.Regions.{Some-row, all-halved, some-halved, all-without, some-without}
-use Rattle.enquiry.proofs.Refused.{after-settle, halves, clears}
+use Rattle.enquiry.proofs.Refused.{after-settle, can-halve, can-clear}
 
 abbrev pub Holding : Mapping → Point → Row → Type 0
 Holding m p r = In p (r .shape) × Between m p (answer-of r)
@@ -128,15 +128,15 @@ module _ (ask : Mapping → Cell → Answer) (rules : Rules ask) (m : Mapping) w
       let high = half-row ask m r (n - 1) 1 in
       record {
         covered = λ p q.
-          ⊎-elim inl
-          (λ (c : Some-row (Holding m p) (s .rows)). inr (some-halved (Holding m p) (s .rows) i l low high
+            ⊎-elim inl
+            (λ (c : Some-row (Holding m p) (s .rows)). inr (some-halved (Holding m p) (s .rows) i l low high
             (λ h.
-              ⊎-elim
-              (λ (x : In p (half (shape-of r) (n - 1) 0)). inl (half-row-between r (n - 1) 0 valid lv (omega arith) shallow p q x (h .1)))
-              (λ (x : In p (half (shape-of r) (n - 1) 1)). inr (half-row-between r (n - 1) 1 valid lv (omega arith) shallow p q x (h .1)))
-              (half-covers (shape-of r) (n - 1) p (subst Valid (sym is) valid) lv (subst (In p) (sym is) (h .0))))
+            ⊎-elim
+            (λ (x : In p (half (shape-of r) (n - 1) 0)). inl (half-row-between r (n - 1) 0 valid lv (omega arith) shallow p q x (h .1)))
+            (λ (x : In p (half (shape-of r) (n - 1) 1)). inr (half-row-between r (n - 1) 1 valid lv (omega arith) shallow p q x (h .1)))
+            (half-covers (shape-of r) (n - 1) p (subst Valid (sym is) valid) lv (subst (In p) (sym is) (h .0))))
             c))
-          (ok .covered p q);
+            (ok .covered p q);
         valid = all-halved (λ x. Valid (x .shape)) (s .rows) i l low high (half-row-valid r (n - 1) 0 valid lv (omega arith) shallow) (half-row-valid r (n - 1) 1 valid lv (omega arith) shallow) (ok .valid);
         near = all-halved (λ x. Near m (answer-of x)) (s .rows) i l low high (half-row-near r (n - 1) 0 valid lv (omega arith) shallow) (half-row-near r (n - 1) 1 valid lv (omega arith) shallow) (ok .near);
         cleared-near = ok .cleared-near;
@@ -148,20 +148,20 @@ module _ (ask : Mapping → Cell → Answer) (rules : Rules ask) (m : Mapping) w
   halve-sound s i n ok =
       after-settle (Sound m) s (first-listed (halve-refusals m s i n)) (length (halved ask m s i n .rows), halved ask m s i n) ok
       (λ e.
-        let h = halves m s i n e in
-        halved-sound s i n ok (h .there) (omega (arith, h .input, m .few)) (h .shallow))
+      let h = can-halve m s i n e in
+      halved-sound s i n ok (h .there) (omega (arith, h .input, m .few)) (h .shallow))
 
 cleared-sound : (m : Mapping) (s : State) (i : ℕ) → Sound m s → i < length (s .rows) → Sound m (cleared-of s i)
 cleared-sound m s i ok l = record {
   covered = λ p q.
-    ⊎-elim
-    (λ (h : Cases (s .cleared) ⊥ (Between m p)). inl (on-left (Between m p) (between-left m p) (s .cleared) (answer-of (region-at s i)) h))
-    (λ (c : Some-row (Holding m p) (s .rows)).
+      ⊎-elim
+      (λ (h : Cases (s .cleared) ⊥ (Between m p)). inl (on-left (Between m p) (between-left m p) (s .cleared) (answer-of (region-at s i)) h))
+      (λ (c : Some-row (Holding m p) (s .rows)).
       ⊎-elim
       (λ (h : Holding m p (region-at s i)). inl (on-right (Between m p) (between-right m p) (s .cleared) (answer-of (region-at s i)) (h .1)))
       (λ (h : Some-row (Holding m p) (without (s .rows) i)). inr h)
       (some-without (Holding m p) (s .rows) i l c))
-    (ok .covered p q);
+      (ok .covered p q);
   valid = all-without (λ x. Valid (x .shape)) (s .rows) i l (ok .valid);
   near = all-without (λ x. Near m (answer-of x)) (s .rows) i l (ok .near);
   cleared-near = on-all (Near m) (near-join m) (s .cleared) (answer-of (region-at s i)) (ok .cleared-near) (all-getD (λ x. Near m (answer-of x)) (s .rows) i no-row l (ok .near));
@@ -172,17 +172,18 @@ pub clear-sound : (m : Mapping) (s : State) (i : ℕ) → Sound m s → Sound m 
 unfolding clear
 clear-sound m s i ok =
     after-settle (Sound m) s (first-listed (clear-refusals m s i)) (length (cleared-of s i .rows), cleared-of s i) ok
-    (λ e. cleared-sound m s i ok (clears m s i e))
+    (λ e. cleared-sound m s i ok (can-clear m s i e))
 
 -- a corner whose ends are wholly out is outside
 new-witness : (m : Mapping) (c : Shape) (k : ℕ) (old : Option Witness) (out : Bool) → Valid c → wholly-out m (corner-ends m c k .0) (corner-ends m c k .1) ≡ out
-  → Cases old (Unit {0}) (Outside m) → Cases (first-witness out old (witness-at c k)) (Unit {0}) (Outside m)
+    → Cases old (Unit {0}) (Outside m) → Cases (first-witness out old (witness-at c k)) (Unit {0}) (Outside m)
 new-witness m c k (Some w) out ok e h = h
 new-witness m c k None false ok e h = tt
 new-witness m c k None true ok e h =
-    let ends = corner-holds c k ok m in
-    (witness-rational c k ok
-    , λ held. out-from-ends m _ _ (corner-point c k) (corner-rational c k ok) e (ends .0) (ends .1) (witness-held c k ok m held))
+    let ends = corner-holds c k ok m in (
+      witness-rational c k ok,
+      λ held. out-from-ends m _ _ (corner-point c k) (corner-rational c k ok) e (ends .0) (ends .1) (witness-held c k ok m held),
+    )
 
 pub probe-sound : (m : Mapping) (s : State) (i k : ℕ) → Sound m s → Sound m (probe m s i k .1)
 unfolding probe

@@ -33,7 +33,7 @@ row-removed t i d l =
     let n : length (rows-of t) ≡ t .count = length-rows t in
     let last = getD (rows-of t) (length (rows-of t) - 1) no-row in
     let same : getD (t .rows) (t .count - 1) d ≡ last =
-      row-read t (t .count - 1) d (omega arith) ∙ ap (λ k. getD (rows-of t) (k - 1) no-row) (sym n) in
+    row-read t (t .count - 1) d (omega arith) ∙ ap (λ k. getD (rows-of t) (k - 1) no-row) (sym n) in
     ap (λ r. take (t .count - 1) (set (t .rows) i r)) same
     ∙ sym (take-take (t .count - 1) (t .count) (set (t .rows) i last) (omega arith))
     ∙ ap (take (t .count - 1)) (row-put t i last l)
@@ -41,7 +41,7 @@ row-removed t i d l =
 
 -- one more region in the hull
 pub hull-more : (t : Table) (h all : Option Answer) (i : ℕ) (d : Row) (a : Answer) → i < t .count → all ≡ join-rows h (take i (rows-of t)) → a ≡ answer-of (getD (t .rows) i d)
-  → join-on all a ≡ join-rows h (take (i + 1) (rows-of t))
+    → join-on all a ≡ join-rows h (take (i + 1) (rows-of t))
 hull-more t h all i d a l e f =
     ap (λ x. join-on x a) e
     ∙ ap (join-on (join-rows h (take i (rows-of t)))) (f ∙ ap answer-of (row-read t i d l))

@@ -1,6 +1,8 @@
 -- From plain numbers to a cell.
+--     zeros              all depths of the box are 0
 --     whole              the cell of the whole box
 --     valid? s           whether the shape is within the limits
+--     cell-when s d      the cell of the shape, by what was decided
 --     cell-of s          the cell of the shape; the whole box where the shape is outside the limits
 -- Assumes nothing.
 use Prim.Native.Nat.{ℕ, zero, suc, _^_, _<_, _≤_}
@@ -35,6 +37,7 @@ each? P d (suc n) = join (each? P d n) (d n)
   where
     last : (v : ℕ) → v < suc n → (v < n) ⊎ (v ≡ n)
     last v h = elim (decLt v n) [ yes l ↦ inl l | no l ↦ inr (omega arith) ]
+
     join : Dec ((v : ℕ) → v < n → P v) → Dec (P n) → Dec ((v : ℕ) → v < suc n → P v)
     join (yes below) (yes here) = yes (λ v h. ⊎-elim (below v) (λ (e : v ≡ n). subst P (sym e) here) (last v h))
     join (yes below) (no not) = no (λ all. not (all n (omega arith)))

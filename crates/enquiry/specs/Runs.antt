@@ -1,9 +1,12 @@
 -- A whole run: an enquiry is opened, takes a list of calls, and is closed.
+--     told f r           the reply of a call that may be refused
+--     ends-told e        the reply of a probe
 --     reply ask m s c    the reply to a call, and the state after it
 --     replies ask m s cs the replies to a list of calls, in their order
 --     after ask m s cs   the state after them
 --     reported rs        the reports among replies
---     reports ask m cs   every report of a run: the opening one, those that were called for, the closing one
+--     seen first rs last the reports that a caller sees: at the opening, among the replies, at the close
+--     reports ask m cs   every report of a run
 -- Assumes nothing.
 use mathlib.Core.List.{List, [], _∷_, _++_}
 use lib.IntN.{ℤ}
@@ -51,7 +54,6 @@ reported (Probed low high ∷ rs) = reported rs
 reported (Reported r ∷ rs) = r ∷ reported rs
 reported (Refused f ∷ rs) = reported rs
 
--- the reports that a caller sees: at the opening, among the replies, at the close
 abbrev pub seen : Report → List Reply → Closed → List Report
 seen first rs last = first ∷ (reported rs ++ last-report last ∷ [])
 

@@ -1,7 +1,8 @@
 -- The state of an enquiry, as a reader would draw it.
 --     State              the open regions in their order, the hull and the largest slack of the cleared ones, the witness
---     region-at s i      the open region with number i, counted from 0
 --     row-of s a         the region with this shape and a form's answer
+--     no-answer, no-row  what stands where there is none
+--     region-at s i      the open region with number i, counted from 0
 --     answer-of r        the enclosure and the slack of a region
 --     join x y           the hull of two enclosures, and the larger slack
 --     join-on h a        the same, onto what there may be

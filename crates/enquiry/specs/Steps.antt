@@ -1,14 +1,26 @@
 -- The calls: what each answers, and the state after it. Regions are counted from 0, inputs from 1.
 --     settle s o r       a call's result: r where nothing is refused, else the refusal and the state as it was
---     tightened r s a    a part of region r: the tighter ends of the region's own and the form's, the form's slack
+--     shape-of r         the shape of a region's cell
+--     no-region s i      whether there is no region i
+--     found s i          region i, or the refusal
+--     tightened r s a    a part of region r with shape s: the tighter ends of the region's own and the form's, the form's slack
 --     half-row ask m r v side    the lower half (side 0) or the upper half (side 1) of a region along an input, counted from 0
---     halve ask m s i n  region i in two along input n: the lower half in its place, the upper half at the end
---     without rows i     the regions with the last one in place of region i
---     clear m s i        region i leaves, and joins the cleared hull
---     probe m s i k      the ends at corner k of region i; a point outside the register becomes the witness if there is none
+--     halved ask m s i n the lower half of region i along input n in its place, the upper half at the end
+--     halve ask m s i n  halves region i along input n, and answers how many regions are open
+--     without rows i     the regions without region i: the last one takes its number
+--     cleared-of s i     region i leaves, and joins the cleared hull
+--     clear m s i        clears region i, and answers how many regions are open
+--     first-witness o w n    the witness w there is, else the new one n where o says so
+--     probed m s i k     the ends at corner k of region i; where they lie wholly outside the register and there is no witness, the
+--                        corner becomes it
+--     probe m s i k      probes corner k of region i, and answers the ends
 --     verdict-on m a w   leaves where there is a witness, else fits where the ends are in the register, else open
---     report m s         the hull of all regions with the verdict
+--     report-on m a w    the report of a range
+--     report m s         the least low end, the greatest high end and the largest slack of all regions, and the verdict
+--     closed-with r w    a report, and the witness if there is one
 --     close m s          the report as it stands, and the witness if there is one
+--     last-report c      the report of a closed enquiry
+--     halve-refusals .., clear-refusals .., probe-refusals ..    the refusals of a call, each with its condition, in their order
 -- Assumes nothing.
 use Prim.Native.Nat.{ℕ, _-_, _^_}
 use mathlib.Core.Bool.{Bool, cond, not, _||_}
@@ -47,7 +59,6 @@ abbrev pub settle : {T : Type 0} → State → Option Refusal → T × State →
 settle s None r = (Ok (r .0), r .1)
 settle s (Some f) r = (Err f, s)
 
--- the shape of a region's cell
 abbrev pub shape-of : Row → Shape
 shape-of r = cell-of (r .shape) .shape
 
@@ -113,12 +124,14 @@ first-witness out None new = cond out (Some new) None
 abbrev pub probed : Mapping → State → ℕ → ℕ → (ℤ × ℤ) × State
 probed m s i k =
     let c = shape-of (region-at s i) in
-    let ends = corner-ends m c k in
-    (ends, record {
-      rows = s .rows;
-      cleared = s .cleared;
-      witness = first-witness (wholly-out m (ends .0) (ends .1)) (s .witness) (witness-at c k);
-    })
+    let ends = corner-ends m c k in (
+      ends,
+      record {
+        rows = s .rows;
+        cleared = s .cleared;
+        witness = first-witness (wholly-out m (ends .0) (ends .1)) (s .witness) (witness-at c k);
+      },
+    )
 
 abbrev pub probe-refusals : Mapping → State → ℕ → ℕ → List (Bool × Refusal)
 probe-refusals m s i k =

@@ -4,10 +4,10 @@ ghost use Rattle.mapping.specs.Listed.{first-listed, outcome};
 ghost use Rattle.enquiry.specs.States.{region-at};
 ghost use Rattle.enquiry.specs.Steps.{found, clear-refusals, clear};
 ghost use Rattle.enquiry.specs.Views.{view};
+use crate::answers::join_on;
 use crate::enquiry::Enquiry;
 use crate::fitting::wholly_in;
 use crate::refusal::Refusal;
-use crate::answers::join_on;
 use crate::table::Row;
 use forms::form::Form;
 

@@ -6,7 +6,6 @@ ghost use Rattle.enquiry.specs.InRegister.{wholly-out};
 ghost use Rattle.enquiry.specs.States.{region-at};
 ghost use Rattle.enquiry.specs.Steps.{probe-refusals, first-witness, probe};
 ghost use Rattle.enquiry.specs.Views.{view};
-use forms::nested::corner as ends_at;
 use crate::enquiry::Enquiry;
 use crate::fitting::wholly_out;
 use crate::refusal::Refusal;
@@ -14,6 +13,7 @@ use crate::shapes::cell_of;
 use crate::table::Row;
 use crate::witness::Witness;
 use forms::form::Form;
+use forms::nested::corner as ends_at;
 use mapping::cell::Cell;
 
 impl Witness {
@@ -24,7 +24,11 @@ impl Witness {
         let [first, second, third] = cell.shape.places;
         let bits = corner as u16;
         Witness {
-            numerators: [first + bits % 2, second + bits / 2 % 2, third + bits / 4 % 2],
+            numerators: [
+                first + bits % 2,
+                second + bits / 2 % 2,
+                third + bits / 4 % 2,
+            ],
             depths: cell.shape.depths,
         }
     }

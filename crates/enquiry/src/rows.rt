@@ -36,7 +36,11 @@ impl Table {
     pub(crate) fn get(&self, region: usize) -> Option<Row>
         ensures value { λ r. ⌜ Cases r (length (rows-of (now (self .entry))) ≤ region) (λ row. (region < length (rows-of (now (self .entry)))) × (row ≡ getD (rows-of (now (self .entry))) region no-row)) ⌝ }
     {
-        if region < self.count { Some(self.rows[region]) } else { None }
+        if region < self.count {
+            Some(self.rows[region])
+        } else {
+            None
+        }
     }
 
     /// Rewrites a region.

@@ -50,7 +50,12 @@ impl<F: Form> Enquiry<F> {
 
 /// Runs a list of calls from the opening to the close. The reports, the closing one too, are honest, whichever
 /// calls are refused, and a witness is outside the register. Fails only for want of memory.
-pub fn run<F: Form + Drop>(form: F, mapping: Mapping, calls: &[Call], heap: Global) -> Result<Transcript, AllocError>
+pub fn run<F: Form + Drop>(
+    form: F,
+    mapping: Mapping,
+    calls: &[Call],
+    heap: Global,
+) -> Result<Transcript, AllocError>
     ensures value { λ r. ⌜ made r (Transcribed (F·Form .meaning form) mapping (now (calls .entry))) ⌝ }
     ensures honest { λ r. ⌜ made r (λ t. Honest mapping (seen-in t)) ⌝ }
     ensures witness { λ r. ⌜ made r (λ t. WitnessTrue mapping (t .closed)) ⌝ }

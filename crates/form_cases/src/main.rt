@@ -26,7 +26,11 @@ fn cell_of(bytes: &[u8]) -> Option<Cell> {
     };
     Cell::new(Shape {
         depths: [*a, *b, *c],
-        places: [u16::from_be_bytes([*d, *e]), u16::from_be_bytes([*f, *g]), u16::from_be_bytes([*h, *i])],
+        places: [
+            u16::from_be_bytes([*d, *e]),
+            u16::from_be_bytes([*f, *g]),
+            u16::from_be_bytes([*h, *i]),
+        ],
     })
 }
 

@@ -21,8 +21,8 @@ module _ (m : Mapping) (g h : Factors) (alike : Alike g h) where
       horner (λ p. times p e₀ f₀ d₀) (degree m 0) (λ i. horner (λ p. times p e₁ f₁ d₁) (degree m 1) (λ j. horner (λ p. times p e₂ f₂ d₂) (degree m 2) (λ k. coefficient m i j k)))
 
   same : (times : ℤ → ℕ → ℕ → ℕ → ℤ)
-    → at (g .from 0) (g .to 0) (g .power 0) (g .from 1) (g .to 1) (g .power 1) (g .from 2) (g .to 2) (g .power 2) times
-    ≡ at (h .from 0) (h .to 0) (h .power 0) (h .from 1) (h .to 1) (h .power 1) (h .from 2) (h .to 2) (h .power 2) times
+      → at (g .from 0) (g .to 0) (g .power 0) (g .from 1) (g .to 1) (g .power 1) (g .from 2) (g .to 2) (g .power 2) times
+      ≡ at (h .from 0) (h .to 0) (h .power 0) (h .from 1) (h .to 1) (h .power 1) (h .from 2) (h .to 2) (h .power 2) times
   same times =
       let a = alike 0 (lit< tt) in
       let b = alike 1 (lit< tt) in

@@ -35,9 +35,9 @@ pub halved-reads : (f : ℤ → ℤ → ℤ) (n1 n2 n3 d1 p1 d2 p2 d3 p3 : ℕ) 
 unfolding halved
 halved-reads f n1 n2 n3 d1 p1 d2 p2 d3 p3 S T h i j k a b c =
     deep-reads f n3 d3 p3 (λ z. deep (kept f n2) d2 p2 (λ y. deep (kept f n1) d1 p1 (λ x. S x y z) i) j)
-      (λ z. deep (kept f n2) d2 p2 (λ y. deep (kept f n1) d1 p1 (λ x. T x y z) i) j)
-      (λ z zl. deep-reads f n2 d2 p2 (λ y. deep (kept f n1) d1 p1 (λ x. S x y z) i) (λ y. deep (kept f n1) d1 p1 (λ x. T x y z) i)
-        (λ y yl. deep-reads f n1 d1 p1 (λ x. S x y z) (λ x. T x y z) (λ x xl. h x y z xl yl zl) i a) j b) k c
+    (λ z. deep (kept f n2) d2 p2 (λ y. deep (kept f n1) d1 p1 (λ x. T x y z) i) j)
+    (λ z zl. deep-reads f n2 d2 p2 (λ y. deep (kept f n1) d1 p1 (λ x. S x y z) i) (λ y. deep (kept f n1) d1 p1 (λ x. T x y z) i)
+    (λ y yl. deep-reads f n1 d1 p1 (λ x. S x y z) (λ x. T x y z) (λ x xl. h x y z xl yl zl) i a) j b) k c
 
 -- ---- the enclosure
 
@@ -55,18 +55,17 @@ pub least-of-reads : (n1 n2 n3 : ℕ) (S T : Table) → Alike n1 n2 n3 S T → l
 unfolding least-of
 least-of-reads n1 n2 n3 S T h =
     least-reads n1 (λ i. least n2 λ j. least n3 (S i j)) (λ i. least n2 λ j. least n3 (T i j)) λ i il.
-      least-reads n2 (λ j. least n3 (S i j)) (λ j. least n3 (T i j)) λ j jl.
-        least-reads n3 (S i j) (T i j) λ k kl. h i j k il jl kl
+    least-reads n2 (λ j. least n3 (S i j)) (λ j. least n3 (T i j)) λ j jl.
+    least-reads n3 (S i j) (T i j) λ k kl. h i j k il jl kl
 
 pub greatest-of-reads : (n1 n2 n3 : ℕ) (S T : Table) → Alike n1 n2 n3 S T → greatest-of n1 n2 n3 S ≡ greatest-of n1 n2 n3 T
 unfolding greatest-of
 greatest-of-reads n1 n2 n3 S T h =
     greatest-reads n1 (λ i. greatest n2 λ j. greatest n3 (S i j)) (λ i. greatest n2 λ j. greatest n3 (T i j)) λ i il.
-      greatest-reads n2 (λ j. greatest n3 (S i j)) (λ j. greatest n3 (T i j)) λ j jl.
-        greatest-reads n3 (S i j) (T i j) λ k kl. h i j k il jl kl
+    greatest-reads n2 (λ j. greatest n3 (S i j)) (λ j. greatest n3 (T i j)) λ j jl.
+    greatest-reads n3 (S i j) (T i j) λ k kl. h i j k il jl kl
 
 module _ (n1 n2 n3 : ℕ) (a b : Table) (h : Alike n1 n2 n3 a b) where
-
   pub low-table-reads : (d1 p1 d2 p2 d3 p3 : ℕ) → Alike n1 n2 n3 (low-table n1 n2 n3 a d1 p1 d2 p2 d3 p3) (low-table n1 n2 n3 b d1 p1 d2 p2 d3 p3)
   unfolding low-table
   low-table-reads d1 p1 d2 p2 d3 p3 =
@@ -96,9 +95,9 @@ module _ (n1 n2 n3 : ℕ) (a b : Table) (h : Alike n1 n2 n3 a b) where
   slack-reads d1 d2 d3 =
       slack-sizes n1 n2 n3 a d1 d2 d3
       ∙ ap (λ s. pos 1 +ℤ (loss n1 d1 s +ℤ (loss n2 d2 (weighed n1 n2 n3 (sizes a) ones pairs ones) +ℤ loss n3 d3 (weighed n1 n2 n3 (sizes a) ones ones pairs))))
-          (weighed-reads n1 n2 n3 (sizes a) (sizes b) pairs ones ones sizes-alike)
+      (weighed-reads n1 n2 n3 (sizes a) (sizes b) pairs ones ones sizes-alike)
       ∙ ap (λ s. pos 1 +ℤ (loss n1 d1 (weighed n1 n2 n3 (sizes b) pairs ones ones) +ℤ (loss n2 d2 s +ℤ loss n3 d3 (weighed n1 n2 n3 (sizes a) ones ones pairs))))
-          (weighed-reads n1 n2 n3 (sizes a) (sizes b) ones pairs ones sizes-alike)
+      (weighed-reads n1 n2 n3 (sizes a) (sizes b) ones pairs ones sizes-alike)
       ∙ ap (λ s. pos 1 +ℤ (loss n1 d1 (weighed n1 n2 n3 (sizes b) pairs ones ones) +ℤ (loss n2 d2 (weighed n1 n2 n3 (sizes b) ones pairs ones) +ℤ loss n3 d3 s)))
-          (weighed-reads n1 n2 n3 (sizes a) (sizes b) ones ones pairs sizes-alike)
+      (weighed-reads n1 n2 n3 (sizes a) (sizes b) ones ones pairs sizes-alike)
       ∙ sym (slack-sizes n1 n2 n3 b d1 d2 d3)

@@ -28,10 +28,10 @@ ev-weight w u s e s0 n i h =
     let E : ℤ = ev (pos w) (pos u) n (λ j. pos (choose j i)) in
     let scaled-row : ev (pos w) (pos u) n (λ j. pos (K * choose j i)) ≡ pos K *ℤ E = ev-scale (pos w) (pos u) n (pos K) (λ j. pos (choose j i)) in
     let powers : s ^ i * s ^ (n - i) ≡ s ^ n =
-      let k : i + (n - i) ≡ n = omega arith in
-      sym (pow-add s i (n - i)) ∙ ap (λ x. s ^ x) k in
+    let k : i + (n - i) ≡ n = omega arith in
+    sym (pow-add s i (n - i)) ∙ ap (λ x. s ^ x) k in
     ap (ev (pos w) (pos u) n) turned ∙ scaled-row
     ∙ mul-same-cancel (s ^ i) (one-le-pow i s s0)
-        (*ℤ-left-comm (pos (s ^ i)) (pos K) E
-         ∙ ap (λ z. pos K *ℤ z) (ev-choose w u s e n i)
-         ∙ ap pos (share-nats K (choose n i) (u ^ i) (s ^ i) (s ^ (n - i)) (s ^ n) (factorial n) powers (choose-factorials n i (n - i) (omega arith))))
+    (*ℤ-left-comm (pos (s ^ i)) (pos K) E
+    ∙ ap (λ z. pos K *ℤ z) (ev-choose w u s e n i)
+    ∙ ap pos (share-nats K (choose n i) (u ^ i) (s ^ i) (s ^ (n - i)) (s ^ n) (factorial n) powers (choose-factorials n i (n - i) (omega arith))))

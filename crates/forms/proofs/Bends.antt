@@ -2,10 +2,10 @@
 --     bend m v t         what the coefficient at the flat place t adds to the sum of input v
 -- Assumes nothing.
 use mathlib.Core.Path.{_≡_, refl, sym, ap, ap₂, _∙_}
-use Prim.Native.Nat.{ℕ, zero, suc, _+_, _-_, _*_, _^_, _≤_, _<_}
+use Prim.Native.Nat.{ℕ, zero, suc, _-_, _*_, _^_, _≤_, _<_}
 use native.Mathlib.Nat.{mul-le-mul, mul-le-mul-right, mul-one, one-mul, mul-suc}
 use native.Mathlib.Omega.{arith}
-use lib.IntN.{ℤ, pos, natAbs, _+ℤ_, _*ℤ_}
+use lib.IntN.{ℤ, pos, natAbs, _*ℤ_}
 use lib.Signed.{mag, _≤ℤ_}
 use mir.Syntax.{w32, w64}
 use mir.Val.{SFits, toZ, ofZ}
@@ -14,11 +14,10 @@ use Rattle.std.proofs.shelf.Signed.{toZ-ofZ, toZ-pos}
 use Rattle.arith.specs.Sums.{sum}
 use Rattle.arith.proofs.Ring.{lin}
 use Rattle.arith.proofs.Sums.{sum-ext, sum-nonneg}
-use Rattle.mapping.specs.Terms.{terms, exponents}
-use Rattle.mapping.specs.Values.{degree}
+use Rattle.mapping.specs.Terms.{terms}
 use Rattle.mapping.specs.declared.mapping.Mapping.{Mapping}
 use Rattle.forms.specs.Arrays.{numbers}
-use Rattle.forms.specs.Bernstein.{bends}
+use Rattle.forms.specs.Stages.{bends}
 use Rattle.forms.specs.Tables.{pairs, ones, bends1, bends2, bends3}
 use Rattle.forms.proofs.Extra.{pos-le, sum-most}
 use Rattle.forms.proofs.Numerators.{exponents-within}
@@ -34,17 +33,19 @@ pub all-bends : (m : Mapping) (v : ℕ) → v < 3 → sum (terms (m .degrees)) (
 unfolding bends1 bends2 bends3
 all-bends m =
     three-cases (λ v. sum (terms (m .degrees)) (bend m v) ≡ bends m v)
-      (sum-ext N (bend m 0) (λ t. pos (a t * (p 0 t * (1 * 1)))) (λ t l. ap (λ x. pos (a t * x)) (sym (mul-one (p 0 t))))
-       ∙ weighed-places (λ z. pos (natAbs z)) (m .degrees) (m .coefficients) pairs ones ones)
-      (sum-ext N (bend m 1) (λ t. pos (a t * (1 * (p 1 t * 1)))) (λ t l. ap (λ x. pos (a t * x)) (sym (one-mul (p 1 t * 1) ∙ mul-one (p 1 t))))
-       ∙ weighed-places (λ z. pos (natAbs z)) (m .degrees) (m .coefficients) ones pairs ones)
-      (sum-ext N (bend m 2) (λ t. pos (a t * (1 * (1 * p 2 t)))) (λ t l. ap (λ x. pos (a t * x)) (sym (one-mul (1 * p 2 t) ∙ one-mul (p 2 t))))
-       ∙ weighed-places (λ z. pos (natAbs z)) (m .degrees) (m .coefficients) ones ones pairs)
+    (sum-ext N (bend m 0) (λ t. pos (a t * (p 0 t * (1 * 1)))) (λ t l. ap (λ x. pos (a t * x)) (sym (mul-one (p 0 t))))
+    ∙ weighed-places (λ z. pos (natAbs z)) (m .degrees) (m .coefficients) pairs ones ones)
+    (sum-ext N (bend m 1) (λ t. pos (a t * (1 * (p 1 t * 1)))) (λ t l. ap (λ x. pos (a t * x)) (sym (one-mul (p 1 t * 1) ∙ mul-one (p 1 t))))
+    ∙ weighed-places (λ z. pos (natAbs z)) (m .degrees) (m .coefficients) ones pairs ones)
+    (sum-ext N (bend m 2) (λ t. pos (a t * (1 * (1 * p 2 t)))) (λ t l. ap (λ x. pos (a t * x)) (sym (one-mul (1 * p 2 t) ∙ one-mul (p 2 t))))
+    ∙ weighed-places (λ z. pos (natAbs z)) (m .degrees) (m .coefficients) ones ones pairs)
   where
     N : ℕ
     N = terms (m .degrees)
+
     a : ℕ → ℕ
     a t = natAbs (numbers (m .coefficients) t)
+
     p : ℕ → ℕ → ℕ
     p v t = exponent (m .degrees) v t * (exponent (m .degrees) v t - 1)
 

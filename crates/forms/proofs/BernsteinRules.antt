@@ -34,51 +34,53 @@ turn-near s l e P h =
     rw m (omega (arith, lin))
 
 module _ (n1 n2 n3 : ℕ) (a : Table) (d1 p1 d2 p2 d3 p3 : ℕ) (h1 : p1 < 2 ^ d1) (h2 : p2 < 2 ^ d2) (h3 : p3 < 2 ^ d3) where
-
   pub encloses : (u1 D1 u2 D2 u3 D3 : ℕ) → 0 < D1 → 0 < D2 → 0 < D3 → InPart d1 p1 u1 D1 → InPart d2 p2 u2 D2 → InPart d3 p3 u3 D3
       → ((low n1 n2 n3 a d1 p1 d2 p2 d3 p3 *ℤ pos (D1 ^ n1 * (D2 ^ n2 * D3 ^ n3))) ≤ℤ poly n1 n2 n3 a u1 D1 u2 D2 u3 D3)
-        × (poly n1 n2 n3 a u1 D1 u2 D2 u3 D3 ≤ℤ (high n1 n2 n3 a d1 p1 d2 p2 d3 p3 *ℤ pos (D1 ^ n1 * (D2 ^ n2 * D3 ^ n3))))
+      × (poly n1 n2 n3 a u1 D1 u2 D2 u3 D3 ≤ℤ (high n1 n2 n3 a d1 p1 d2 p2 d3 p3 *ℤ pos (D1 ^ n1 * (D2 ^ n2 * D3 ^ n3))))
   encloses u1 D1 u2 D2 u3 D3 o1 o2 o3 i1 i2 i3 =
       let below : (b : Table) → (low n1 n2 n3 b d1 p1 d2 p2 d3 p3 *ℤ pos (D1 ^ n1 * (D2 ^ n2 * D3 ^ n3))) ≤ℤ poly n1 n2 n3 b u1 D1 u2 D2 u3 D3 =
-        λ b. Ends.encloses-low n1 n2 n3 b d1 p1 d2 p2 d3 p3 h1 h2 h3 u1 D1 u2 D2 u3 D3 o1 o2 o3 i1 i2 i3 in
-      (below a,
-       rw (high-mirror n1 n2 n3 a d1 p1 d2 p2 d3 p3)
-         (turn-high (poly n1 n2 n3 a u1 D1 u2 D2 u3 D3) (low n1 n2 n3 (neg-table a) d1 p1 d2 p2 d3 p3) (pos (D1 ^ n1 * (D2 ^ n2 * D3 ^ n3)))
-           (rw (poly-mirror n1 n2 n3 a u1 D1 u2 D2 u3 D3) at (below (neg-table a)))))
+      λ b. Ends.encloses-low n1 n2 n3 b d1 p1 d2 p2 d3 p3 h1 h2 h3 u1 D1 u2 D2 u3 D3 o1 o2 o3 i1 i2 i3 in (
+        below a,
+        rw (high-mirror n1 n2 n3 a d1 p1 d2 p2 d3 p3)
+            (turn-high (poly n1 n2 n3 a u1 D1 u2 D2 u3 D3) (low n1 n2 n3 (neg-table a) d1 p1 d2 p2 d3 p3) (pos (D1 ^ n1 * (D2 ^ n2 * D3 ^ n3)))
+            (rw (poly-mirror n1 n2 n3 a u1 D1 u2 D2 u3 D3) at (below (neg-table a)))),
+      )
 
   pub encloses-at : (c : CellPoint d1 p1 d2 p2 d3 p3)
       → ((low n1 n2 n3 a d1 p1 d2 p2 d3 p3 *ℤ pos (c .D ^ (n1 + n2 + n3))) ≤ℤ poly n1 n2 n3 a (c .u1) (c .D) (c .u2) (c .D) (c .u3) (c .D))
-        × (poly n1 n2 n3 a (c .u1) (c .D) (c .u2) (c .D) (c .u3) (c .D) ≤ℤ (high n1 n2 n3 a d1 p1 d2 p2 d3 p3 *ℤ pos (c .D ^ (n1 + n2 + n3))))
+      × (poly n1 n2 n3 a (c .u1) (c .D) (c .u2) (c .D) (c .u3) (c .D) ≤ℤ (high n1 n2 n3 a d1 p1 d2 p2 d3 p3 *ℤ pos (c .D ^ (n1 + n2 + n3))))
   encloses-at c =
       let E : ℕ = c .D in
       let e : E ^ (n1 + n2 + n3) ≡ E ^ n1 * (E ^ n2 * E ^ n3) =
-        pow-add E (n1 + n2) n3 ∙ ap (λ x. x * E ^ n3) (pow-add E n1 n2) ∙ mul-assoc (E ^ n1) (E ^ n2) (E ^ n3) in
+      pow-add E (n1 + n2) n3 ∙ ap (λ x. x * E ^ n3) (pow-add E n1 n2) ∙ mul-assoc (E ^ n1) (E ^ n2) (E ^ n3) in
       rw e (encloses (c .u1) E (c .u2) E (c .u3) E (c .D-pos) (c .D-pos) (c .D-pos) (c .part1) (c .part2) (c .part3))
 
   pub low-near : (c : CellPoint d1 p1 d2 p2 d3 p3)
       × (poly n1 n2 n3 a (c .u1) (c .D) (c .u2) (c .D) (c .u3) (c .D)
-         ≤ℤ ((low n1 n2 n3 a d1 p1 d2 p2 d3 p3 +ℤ slack n1 n2 n3 a d1 d2 d3) *ℤ pos (c .D ^ (n1 + n2 + n3))))
+      ≤ℤ ((low n1 n2 n3 a d1 p1 d2 p2 d3 p3 +ℤ slack n1 n2 n3 a d1 d2 d3) *ℤ pos (c .D ^ (n1 + n2 + n3))))
   low-near = Ends.low-near n1 n2 n3 a d1 p1 d2 p2 d3 p3 h1 h2 h3
 
   pub high-near : (c : CellPoint d1 p1 d2 p2 d3 p3)
       × (((high n1 n2 n3 a d1 p1 d2 p2 d3 p3 -ℤ slack n1 n2 n3 a d1 d2 d3) *ℤ pos (c .D ^ (n1 + n2 + n3)))
-         ≤ℤ poly n1 n2 n3 a (c .u1) (c .D) (c .u2) (c .D) (c .u3) (c .D))
+      ≤ℤ poly n1 n2 n3 a (c .u1) (c .D) (c .u2) (c .D) (c .u3) (c .D))
   high-near =
       let m = Ends.low-near n1 n2 n3 (neg-table a) d1 p1 d2 p2 d3 p3 h1 h2 h3 in
-      let c : CellPoint d1 p1 d2 p2 d3 p3 = m .0 in
-      (c, rw (high-mirror n1 n2 n3 a d1 p1 d2 p2 d3 p3)
-        (turn-near (poly n1 n2 n3 a (c .u1) (c .D) (c .u2) (c .D) (c .u3) (c .D)) (low n1 n2 n3 (neg-table a) d1 p1 d2 p2 d3 p3)
-          (slack n1 n2 n3 a d1 d2 d3) (pos (c .D ^ (n1 + n2 + n3)))
-          (rw (poly-mirror n1 n2 n3 a (c .u1) (c .D) (c .u2) (c .D) (c .u3) (c .D), slack-mirror n1 n2 n3 a d1 d2 d3) at (m .1))))
+      let c : CellPoint d1 p1 d2 p2 d3 p3 = m .0 in (
+        c,
+        rw (high-mirror n1 n2 n3 a d1 p1 d2 p2 d3 p3)
+            (turn-near (poly n1 n2 n3 a (c .u1) (c .D) (c .u2) (c .D) (c .u3) (c .D)) (low n1 n2 n3 (neg-table a) d1 p1 d2 p2 d3 p3)
+            (slack n1 n2 n3 a d1 d2 d3) (pos (c .D ^ (n1 + n2 + n3)))
+            (rw (poly-mirror n1 n2 n3 a (c .u1) (c .D) (c .u2) (c .D) (c .u3) (c .D), slack-mirror n1 n2 n3 a d1 d2 d3) at (m .1))),
+      )
 
   pub low-high : low n1 n2 n3 a d1 p1 d2 p2 d3 p3 ≤ℤ high n1 n2 n3 a d1 p1 d2 p2 d3 p3
   low-high =
       let c = low-near .0 in
       let P : ℕ = c .D ^ (n1 + n2 + n3) in
       let both : (low n1 n2 n3 a d1 p1 d2 p2 d3 p3 *ℤ pos P) ≤ℤ (high n1 n2 n3 a d1 p1 d2 p2 d3 p3 *ℤ pos P) =
-        le-trans (encloses-at c .0) (encloses-at c .1) in
+      le-trans (encloses-at c .0) (encloses-at c .1) in
       mul-le-cancel P (one-le-pow (n1 + n2 + n3) (c .D) (c .D-pos))
-        (rw (*ℤ-comm (pos P) (low n1 n2 n3 a d1 p1 d2 p2 d3 p3), *ℤ-comm (pos P) (high n1 n2 n3 a d1 p1 d2 p2 d3 p3)) both)
+      (rw (*ℤ-comm (pos P) (low n1 n2 n3 a d1 p1 d2 p2 d3 p3), *ℤ-comm (pos P) (high n1 n2 n3 a d1 p1 d2 p2 d3 p3)) both)
 
 pub mirrored : (n1 n2 n3 : ℕ) (a : Table) (d1 p1 d2 p2 d3 p3 j1 j2 j3 : ℕ)
     → high-table n1 n2 n3 a d1 p1 d2 p2 d3 p3 j1 j2 j3 ≡ negℤ (low-table n1 n2 n3 (λ i j k. negℤ (a i j k)) d1 p1 d2 p2 d3 p3 j1 j2 j3)

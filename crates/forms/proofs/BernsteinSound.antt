@@ -1,5 +1,4 @@
 -- The Bernstein form keeps the rules of a form: its theorems, read off at the points of a cell. Assumes nothing.
-use mathlib.Core.Path.{_≡_, refl, sym, subst}
 use Prim.Native.Nat.{ℕ, zero, suc, _+_, _*_, _^_, _≤_, _<_}
 use native.Mathlib.Numerals.{add-one}
 use native.Mathlib.Omega.{arith}
@@ -82,9 +81,9 @@ module _ (c : Cell) where
   inside : (q : OfCell) → In (to-point q) (c .shape)
   inside q =
       three-cases (λ v. Covers (depth (c .shape) v) (place (c .shape) v) (three (q .u1) (q .u2) (q .u3) v) (q .D))
-        (covers (depth (c .shape) 0) (place (c .shape) 0) (q .u1) (q .D) (q .part1))
-        (covers (depth (c .shape) 1) (place (c .shape) 1) (q .u2) (q .D) (q .part2))
-        (covers (depth (c .shape) 2) (place (c .shape) 2) (q .u3) (q .D) (q .part3))
+      (covers (depth (c .shape) 0) (place (c .shape) 0) (q .u1) (q .D) (q .part1))
+      (covers (depth (c .shape) 1) (place (c .shape) 1) (q .u2) (q .D) (q .part2))
+      (covers (depth (c .shape) 2) (place (c .shape) 2) (q .u3) (q .D) (q .part3))
 
 -- ---- the rules
 
@@ -93,28 +92,28 @@ module _ (m : Mapping) (c : Cell) where
   unfolding bernstein from-point
   low-holds p r i =
       at-least m p (bernstein m c .low)
-        (rules.encloses-at (degree m 0) (degree m 1) (degree m 2) (coefficient m) (depth (c .shape) 0) (place (c .shape) 0) (depth (c .shape) 1) (place (c .shape) 1) (depth (c .shape) 2) (place (c .shape) 2)
-          (c .inside 0 (omega arith)) (c .inside 1 (omega arith)) (c .inside 2 (omega arith)) (from-point c p r i) .0)
+      (rules.encloses-at (degree m 0) (degree m 1) (degree m 2) (coefficient m) (depth (c .shape) 0) (place (c .shape) 0) (depth (c .shape) 1) (place (c .shape) 1) (depth (c .shape) 2) (place (c .shape) 2)
+      (c .inside 0 (omega arith)) (c .inside 1 (omega arith)) (c .inside 2 (omega arith)) (from-point c p r i) .0)
 
   high-holds : (p : Point) → Rational p → In p (c .shape) → AtMost m p (bernstein m c .high)
   unfolding bernstein from-point
   high-holds p r i =
       at-most m p (bernstein m c .high)
-        (rules.encloses-at (degree m 0) (degree m 1) (degree m 2) (coefficient m) (depth (c .shape) 0) (place (c .shape) 0) (depth (c .shape) 1) (place (c .shape) 1) (depth (c .shape) 2) (place (c .shape) 2)
-          (c .inside 0 (omega arith)) (c .inside 1 (omega arith)) (c .inside 2 (omega arith)) (from-point c p r i) .1)
+      (rules.encloses-at (degree m 0) (degree m 1) (degree m 2) (coefficient m) (depth (c .shape) 0) (place (c .shape) 0) (depth (c .shape) 1) (place (c .shape) 1) (depth (c .shape) 2) (place (c .shape) 2)
+      (c .inside 0 (omega arith)) (c .inside 1 (omega arith)) (c .inside 2 (omega arith)) (from-point c p r i) .1)
 
   low-near : (p : Point) × Rational p × In p (c .shape) × AtMost m p (bernstein m c .low +ℤ bernstein m c .slack)
   unfolding bernstein
   low-near =
       let q = rules.low-near (degree m 0) (degree m 1) (degree m 2) (coefficient m) (depth (c .shape) 0) (place (c .shape) 0) (depth (c .shape) 1) (place (c .shape) 1) (depth (c .shape) 2) (place (c .shape) 2)
-          (c .inside 0 (omega arith)) (c .inside 1 (omega arith)) (c .inside 2 (omega arith)) in
+      (c .inside 0 (omega arith)) (c .inside 1 (omega arith)) (c .inside 2 (omega arith)) in
       (to-point c (q .0), rational c (q .0), inside c (q .0), at-most m (to-point c (q .0)) (bernstein m c .low +ℤ bernstein m c .slack) (q .1))
 
   high-near : (p : Point) × Rational p × In p (c .shape) × AtLeast m p (bernstein m c .high -ℤ bernstein m c .slack)
   unfolding bernstein
   high-near =
       let q = rules.high-near (degree m 0) (degree m 1) (degree m 2) (coefficient m) (depth (c .shape) 0) (place (c .shape) 0) (depth (c .shape) 1) (place (c .shape) 1) (depth (c .shape) 2) (place (c .shape) 2)
-          (c .inside 0 (omega arith)) (c .inside 1 (omega arith)) (c .inside 2 (omega arith)) in
+      (c .inside 0 (omega arith)) (c .inside 1 (omega arith)) (c .inside 2 (omega arith)) in
       (to-point c (q .0), rational c (q .0), inside c (q .0), at-least m (to-point c (q .0)) (bernstein m c .high -ℤ bernstein m c .slack) (q .1))
 
 pub bernstein-rules : Rules bernstein

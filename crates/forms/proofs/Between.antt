@@ -66,7 +66,6 @@ mean-up-between l h x y a b =
 
 -- for means f of which that holds
 module _ (f : ℤ → ℤ → ℤ) (l h : ℤ) (mean : (x y : ℤ) → Between l h x → Between l h y → Between l h (f x y)) where
-
   pub rounds-between : (n : ℕ) (r : Row) → ((k : ℕ) → k ≤ n → Between l h (r k)) → (t i : ℕ) → i + t ≤ n → Between l h (rounds f t r i)
   rounds-between n r b t i le = rounds-keep (λ t x y. Between l h x) f f (λ t a b x y p q. mean a b p q) n r r b t i le
 
@@ -82,8 +81,8 @@ module _ (f : ℤ → ℤ → ℤ) (l h : ℤ) (mean : (x y : ℤ) → Between l
   unfolding halved
   halved-between n1 n2 n3 d1 p1 d2 p2 d3 p3 T b i j k il jl kl =
       deep-between n3 d3 p3 (λ z. deep (kept f n2) d2 p2 (λ y. deep (kept f n1) d1 p1 (λ x. T x y z) i) j)
-        (λ z zl. deep-between n2 d2 p2 (λ y. deep (kept f n1) d1 p1 (λ x. T x y z) i)
-          (λ y yl. deep-between n1 d1 p1 (λ x. T x y z) (λ x xl. b x y z xl yl zl) i il) j jl) k kl
+      (λ z zl. deep-between n2 d2 p2 (λ y. deep (kept f n1) d1 p1 (λ x. T x y z) i)
+      (λ y yl. deep-between n1 d1 p1 (λ x. T x y z) (λ x xl. b x y z xl yl zl) i il) j jl) k kl
 
 -- ---- quotients
 
@@ -92,6 +91,7 @@ below-next F B q z lo hi = by-ltZ q (negℤ B) (λ l. absurd (never l)) (λ l. l
   where
     clash : (a b z : ℤ) → a ≤ℤ negℤ b → negℤ b ≤ℤ z → (z +ℤ pos 1) ≤ℤ a → ⊥
     clash a b z h k m = omega (arith, lin)
+
     never : q <ℤ negℤ B → ⊥
     never l =
         let m : (q +ℤ pos 1) ≤ℤ negℤ B = omega (arith, lin) in
@@ -104,7 +104,8 @@ quot-down-between F B z F0 b =
     let q : ℤ = quot-down z F in
     record {
       from = below-next F B q z (b .from) (quot-down-is z F F0 .1);
-      to = mul-le-cancel F F0 (le-trans (quot-down-is z F F0 .0) (b .to)) }
+      to = mul-le-cancel F F0 (le-trans (quot-down-is z F F0 .0) (b .to));
+    }
 
 pub quot-up-between : (F : ℕ) (B z : ℤ) → 0 < F → Between (negℤ (pos F *ℤ B)) (pos F *ℤ B) z → Between (negℤ B) B (quot-up z F)
 quot-up-between F B z F0 b =
@@ -147,16 +148,15 @@ numerator-le : (n1 n2 n3 : ℕ) (a : Table) (j1 j2 j3 : ℕ) → j1 ≤ n1 → j
 unfolding times-ones
 numerator-le n1 n2 n3 a j1 j2 j3 h1 h2 h3 =
     le-trans
-      (weighed-le n1 n2 n3 a (weights n1 j1) (times-ones (factorial n1)) (weights n2 j2) (times-ones (factorial n2)) (weights n3 j3) (times-ones (factorial n3))
-        (weights-under n1 j1 h1) (weights-under n2 j2 h2) (weights-under n3 j3 h3))
-      (le-eq (weighed-scale n1 n2 n3 (sizes a) (pos (factorial n1)) (pos (factorial n2)) (pos (factorial n3)) ones ones ones
-        ∙ ap (λ m. pos (factorial n1 * (factorial n2 * factorial n3)) *ℤ m) (mass-is n1 n2 n3 a)))
+    (weighed-le n1 n2 n3 a (weights n1 j1) (times-ones (factorial n1)) (weights n2 j2) (times-ones (factorial n2)) (weights n3 j3) (times-ones (factorial n3))
+    (weights-under n1 j1 h1) (weights-under n2 j2 h2) (weights-under n3 j3 h3))
+    (le-eq (weighed-scale n1 n2 n3 (sizes a) (pos (factorial n1)) (pos (factorial n2)) (pos (factorial n3)) ones ones ones
+    ∙ ap (λ m. pos (factorial n1 * (factorial n2 * factorial n3)) *ℤ m) (mass-is n1 n2 n3 a)))
 
 module _ (n1 n2 n3 : ℕ) (a : Table) where
-
   pub numerator-between : (j1 j2 j3 : ℕ) → j1 ≤ n1 → j2 ≤ n2 → j3 ≤ n3
       → Between (negℤ (pos (factorial n1 * (factorial n2 * factorial n3)) *ℤ mass n1 n2 n3 a)) (pos (factorial n1 * (factorial n2 * factorial n3)) *ℤ mass n1 n2 n3 a)
-          (numerator n1 n2 n3 a j1 j2 j3)
+      (numerator n1 n2 n3 a j1 j2 j3)
   numerator-between j1 j2 j3 h1 h2 h3 =
       let z : ℤ = weighed n1 n2 n3 a (weights n1 j1) (weights n2 j2) (weights n3 j3) in
       let M : ℤ = pos (factorial n1 * (factorial n2 * factorial n3)) *ℤ mass n1 n2 n3 a in
@@ -173,12 +173,12 @@ module _ (n1 n2 n3 : ℕ) (a : Table) where
   pub first-down-between : (j1 j2 j3 : ℕ) → j1 ≤ n1 → j2 ≤ n2 → j3 ≤ n3 → Between (negℤ (mass n1 n2 n3 a)) (mass n1 n2 n3 a) (first quot-down n1 n2 n3 a j1 j2 j3)
   first-down-between j1 j2 j3 h1 h2 h3 =
       rw (← first-text quot-down n1 n2 n3 a j1 j2 j3)
-        (quot-down-between (factorial n1 * (factorial n2 * factorial n3)) (mass n1 n2 n3 a) (numerator n1 n2 n3 a j1 j2 j3) factorials-pos (numerator-between j1 j2 j3 h1 h2 h3))
+      (quot-down-between (factorial n1 * (factorial n2 * factorial n3)) (mass n1 n2 n3 a) (numerator n1 n2 n3 a j1 j2 j3) factorials-pos (numerator-between j1 j2 j3 h1 h2 h3))
 
   pub first-up-between : (j1 j2 j3 : ℕ) → j1 ≤ n1 → j2 ≤ n2 → j3 ≤ n3 → Between (negℤ (mass n1 n2 n3 a)) (mass n1 n2 n3 a) (first quot-up n1 n2 n3 a j1 j2 j3)
   first-up-between j1 j2 j3 h1 h2 h3 =
       rw (← first-text quot-up n1 n2 n3 a j1 j2 j3)
-        (quot-up-between (factorial n1 * (factorial n2 * factorial n3)) (mass n1 n2 n3 a) (numerator n1 n2 n3 a j1 j2 j3) factorials-pos (numerator-between j1 j2 j3 h1 h2 h3))
+      (quot-up-between (factorial n1 * (factorial n2 * factorial n3)) (mass n1 n2 n3 a) (numerator n1 n2 n3 a j1 j2 j3) factorials-pos (numerator-between j1 j2 j3 h1 h2 h3))
 
   -- ---- the tables on a cell
 
@@ -187,14 +187,14 @@ module _ (n1 n2 n3 : ℕ) (a : Table) where
   unfolding low-table
   low-table-between d1 p1 d2 p2 d3 p3 j1 j2 j3 h1 h2 h3 =
       halved-between mean-down (negℤ (mass n1 n2 n3 a)) (mass n1 n2 n3 a) (λ x y. mean-down-between (negℤ (mass n1 n2 n3 a)) (mass n1 n2 n3 a) x y)
-        n1 n2 n3 d1 p1 d2 p2 d3 p3 (first quot-down n1 n2 n3 a) first-down-between j1 j2 j3 h1 h2 h3
+      n1 n2 n3 d1 p1 d2 p2 d3 p3 (first quot-down n1 n2 n3 a) first-down-between j1 j2 j3 h1 h2 h3
 
   pub high-table-between : (d1 p1 d2 p2 d3 p3 j1 j2 j3 : ℕ) → j1 ≤ n1 → j2 ≤ n2 → j3 ≤ n3
       → Between (negℤ (mass n1 n2 n3 a)) (mass n1 n2 n3 a) (high-table n1 n2 n3 a d1 p1 d2 p2 d3 p3 j1 j2 j3)
   unfolding high-table
   high-table-between d1 p1 d2 p2 d3 p3 j1 j2 j3 h1 h2 h3 =
       halved-between mean-up (negℤ (mass n1 n2 n3 a)) (mass n1 n2 n3 a) (λ x y. mean-up-between (negℤ (mass n1 n2 n3 a)) (mass n1 n2 n3 a) x y)
-        n1 n2 n3 d1 p1 d2 p2 d3 p3 (first quot-up n1 n2 n3 a) first-up-between j1 j2 j3 h1 h2 h3
+      n1 n2 n3 d1 p1 d2 p2 d3 p3 (first quot-up n1 n2 n3 a) first-up-between j1 j2 j3 h1 h2 h3
 
   -- ---- the mass, where every coefficient has a size of at most A
 
@@ -202,10 +202,10 @@ module _ (n1 n2 n3 : ℕ) (a : Table) where
   unfolding mass weighed
   mass-le A h =
       let most : weighed n1 n2 n3 (sizes a) ones ones ones ≤ℤ pos (suc n1 * (suc n2 * (suc n3 * A))) =
-        sum-most (suc n1) (λ i. sum (suc n2) λ j. sum (suc n3) λ k. sizes a i j k *ℤ (ones i *ℤ (ones j *ℤ ones k))) (suc n2 * (suc n3 * A)) λ i il.
-          sum-most (suc n2) (λ j. sum (suc n3) λ k. sizes a i j k *ℤ (ones i *ℤ (ones j *ℤ ones k))) (suc n3 * A) λ j jl.
-            sum-most (suc n3) (λ k. sizes a i j k *ℤ (ones i *ℤ (ones j *ℤ ones k))) A λ k kl.
-              rw (mul-one (natAbs (a i j k))) (pos-le (h i j k (omega arith) (omega arith) (omega arith))) in
+      sum-most (suc n1) (λ i. sum (suc n2) λ j. sum (suc n3) λ k. sizes a i j k *ℤ (ones i *ℤ (ones j *ℤ ones k))) (suc n2 * (suc n3 * A)) λ i il.
+      sum-most (suc n2) (λ j. sum (suc n3) λ k. sizes a i j k *ℤ (ones i *ℤ (ones j *ℤ ones k))) (suc n3 * A) λ j jl.
+      sum-most (suc n3) (λ k. sizes a i j k *ℤ (ones i *ℤ (ones j *ℤ ones k))) A λ k kl.
+      rw (mul-one (natAbs (a i j k))) (pos-le (h i j k (omega arith) (omega arith) (omega arith))) in
       rw (count-nats (suc n1) (suc n2) (suc n3) A) most
     where
       count-nats : (x y z A : ℕ) → (x * (y * z)) * A ≡ x * (y * (z * A))
@@ -238,7 +238,7 @@ sum-between (suc n) f B h =
 sizes-nonneg : (n1 n2 n3 : ℕ) (a : Table) (x y z : Row) → Under n1 x x → Under n2 y y → Under n3 z z → pos 0 ≤ℤ weighed n1 n2 n3 (sizes a) x y z
 sizes-nonneg n1 n2 n3 a x y z p q r =
     let h : weighed n1 n2 n3 (neg-table (sizes a)) x y z ≤ℤ weighed n1 n2 n3 (sizes (neg-table (sizes a))) x y z =
-      weighed-le n1 n2 n3 (neg-table (sizes a)) x x y y z z p q r in
+    weighed-le n1 n2 n3 (neg-table (sizes a)) x x y y z z p q r in
     plain (weighed n1 n2 n3 (sizes a) x y z) (rw (weighed-neg n1 n2 n3 (sizes a) x y z, sizes-neg (sizes a)) at h)
   where
     plain : (s : ℤ) → negℤ s ≤ℤ s → pos 0 ≤ℤ s
@@ -250,15 +250,15 @@ pos-under n f = record { from = λ i l. pos-le (omega arith); to = λ i l. ≤�
 pairs-under : (n : ℕ) → Under n pairs (times-ones (n * (n - 1)))
 unfolding times-ones
 pairs-under n = record {
-    from = λ i l. pos-le (omega arith);
-    to = λ i l. rw (mul-one (n * (n - 1))) (pos-le (mul-le-mul l (omega arith))) }
+  from = λ i l. pos-le (omega arith);
+  to = λ i l. rw (mul-one (n * (n - 1))) (pos-le (mul-le-mul l (omega arith)));
+}
 
 ones-under : (n : ℕ) → Under n ones (times-ones 1)
 unfolding times-ones
 ones-under n = record { from = λ i l. pos-le (omega arith); to = λ i l. pos-le (omega arith) }
 
 module _ (n1 n2 n3 : ℕ) (a : Table) where
-
   scaled-mass : (c d e : ℕ) → weighed n1 n2 n3 (sizes a) (times-ones c) (times-ones d) (times-ones e) ≡ pos (c * (d * e)) *ℤ mass n1 n2 n3 a
   unfolding times-ones
   scaled-mass c d e =
@@ -271,7 +271,8 @@ module _ (n1 n2 n3 : ℕ) (a : Table) where
       record {
         from = sizes-nonneg n1 n2 n3 a pairs ones ones (pos-under n1 (λ i. i * (i - 1))) (pos-under n2 (λ i. 1)) (pos-under n3 (λ i. 1));
         to = le-trans (weighed-le n1 n2 n3 (sizes a) pairs (times-ones (n1 * (n1 - 1))) ones (times-ones 1) ones (times-ones 1) (pairs-under n1) (ones-under n2) (ones-under n3))
-          (le-eq (scaled-mass (n1 * (n1 - 1)) 1 1 ∙ ap (λ c. pos c *ℤ mass n1 n2 n3 a) e)) }
+            (le-eq (scaled-mass (n1 * (n1 - 1)) 1 1 ∙ ap (λ c. pos c *ℤ mass n1 n2 n3 a) e));
+      }
 
   pub bends2-between : Between (pos 0) (pos (n2 * (n2 - 1)) *ℤ mass n1 n2 n3 a) (bends2 n1 n2 n3 a)
   unfolding bends2
@@ -280,7 +281,8 @@ module _ (n1 n2 n3 : ℕ) (a : Table) where
       record {
         from = sizes-nonneg n1 n2 n3 a ones pairs ones (pos-under n1 (λ i. 1)) (pos-under n2 (λ i. i * (i - 1))) (pos-under n3 (λ i. 1));
         to = le-trans (weighed-le n1 n2 n3 (sizes a) ones (times-ones 1) pairs (times-ones (n2 * (n2 - 1))) ones (times-ones 1) (ones-under n1) (pairs-under n2) (ones-under n3))
-          (le-eq (scaled-mass 1 (n2 * (n2 - 1)) 1 ∙ ap (λ c. pos c *ℤ mass n1 n2 n3 a) e)) }
+            (le-eq (scaled-mass 1 (n2 * (n2 - 1)) 1 ∙ ap (λ c. pos c *ℤ mass n1 n2 n3 a) e));
+      }
 
   pub bends3-between : Between (pos 0) (pos (n3 * (n3 - 1)) *ℤ mass n1 n2 n3 a) (bends3 n1 n2 n3 a)
   unfolding bends3
@@ -289,7 +291,8 @@ module _ (n1 n2 n3 : ℕ) (a : Table) where
       record {
         from = sizes-nonneg n1 n2 n3 a ones ones pairs (pos-under n1 (λ i. 1)) (pos-under n2 (λ i. 1)) (pos-under n3 (λ i. i * (i - 1)));
         to = le-trans (weighed-le n1 n2 n3 (sizes a) ones (times-ones 1) ones (times-ones 1) pairs (times-ones (n3 * (n3 - 1))) (ones-under n1) (ones-under n2) (pairs-under n3))
-          (le-eq (scaled-mass 1 1 (n3 * (n3 - 1)) ∙ ap (λ c. pos c *ℤ mass n1 n2 n3 a) e)) }
+            (le-eq (scaled-mass 1 1 (n3 * (n3 - 1)) ∙ ap (λ c. pos c *ℤ mass n1 n2 n3 a) e));
+      }
 
 -- a quotient rounded up of a number that is not negative
 quot-up-size : (z m : ℕ) → Between (pos 0) (pos z) (quot-up (pos z) m)
@@ -311,7 +314,7 @@ loss-between (suc m) d S h =
 
 pub slack-between : (n1 n2 n3 : ℕ) (a : Table) (d1 d2 d3 : ℕ)
     → Between (pos 1) (pos 1 +ℤ ((pos (n1 * d1) +ℤ bends1 n1 n2 n3 a) +ℤ ((pos (n2 * d2) +ℤ bends2 n1 n2 n3 a) +ℤ (pos (n3 * d3) +ℤ bends3 n1 n2 n3 a))))
-        (slack n1 n2 n3 a d1 d2 d3)
+    (slack n1 n2 n3 a d1 d2 d3)
 unfolding slack
 slack-between n1 n2 n3 a d1 d2 d3 =
     let x = loss-between n1 d1 (bends1 n1 n2 n3 a) (bends1-between n1 n2 n3 a .from) in
@@ -319,7 +322,8 @@ slack-between n1 n2 n3 a d1 d2 d3 =
     let z = loss-between n3 d3 (bends3 n1 n2 n3 a) (bends3-between n1 n2 n3 a .from) in
     record {
       from = plain (loss n1 d1 (bends1 n1 n2 n3 a)) (loss n2 d2 (bends2 n1 n2 n3 a)) (loss n3 d3 (bends3 n1 n2 n3 a)) (x .from) (y .from) (z .from);
-      to = add-le (≤ℤ-refl (pos 1)) (add-le (x .to) (add-le (y .to) (z .to))) }
+      to = add-le (≤ℤ-refl (pos 1)) (add-le (x .to) (add-le (y .to) (z .to)));
+    }
   where
     plain : (x y z : ℤ) → pos 0 ≤ℤ x → pos 0 ≤ℤ y → pos 0 ≤ℤ z → pos 1 ≤ℤ (pos 1 +ℤ (x +ℤ (y +ℤ z)))
     plain x y z f g h = omega (arith, lin)

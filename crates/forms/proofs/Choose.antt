@@ -41,7 +41,7 @@ choose-factorials (suc n) (suc i) zero e =
 choose-factorials (suc n) (suc i) (suc l) e =
     let s : suc i + suc l ≡ suc n = omega arith in
     next-factorials i l (factorial i) (factorial l) (choose n i) (choose n (suc i)) (factorial n)
-      (choose-factorials n i (suc l) (omega arith)) (choose-factorials n (suc i) l (omega arith))
+    (choose-factorials n i (suc l) (omega arith)) (choose-factorials n (suc i) l (omega arith))
     ∙ ap (λ x. x * factorial n) s
 
 choose-step : (n i : ℕ) → choose n i ≤ choose (suc n) i

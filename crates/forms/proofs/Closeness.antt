@@ -62,7 +62,8 @@ closer (suc m) d T R x y H A S close L bound whole =
     let Z : Row = λ i. pos T *ℤ pairs i in
     let under : Under n z Z = record {
       from = λ i l. rw (minus-one (pos K *ℤ y i)) (gap-nonneg K (x i) (y i) (close .under i l));
-      to = λ i l. rw (minus-one (pos K *ℤ y i)) (gap-le (pos K *ℤ x i) (pos K *ℤ y i) (pos T *ℤ pairs i) (close .near i l)) } in
+      to = λ i l. rw (minus-one (pos K *ℤ y i)) (gap-le (pos K *ℤ x i) (pos K *ℤ y i) (pos T *ℤ pairs i) (close .near i l));
+    } in
     let gap : ((pos K *ℤ H x) +ℤ negℤ (pos K *ℤ H y)) ≤ℤ (pos R *ℤ S) = rw (gap-value n H L x y K, whole) at (bound z Z under) in
     cancel K R (H x) (H y) (quot-up S K) S K0 (gap-back (pos K *ℤ H x) (pos K *ℤ H y) (pos R *ℤ S) gap) (quot-up-is S K K0)
 
@@ -103,7 +104,6 @@ chain x y z w R q1 q2 q3 a b c =
 -- with weights close in each input, at scales T1, T2, T3
 module _ (n1 n2 n3 : ℕ) (a : Table) (d1 d2 d3 T1 T2 T3 : ℕ) (x1 y1 x2 y2 x3 y3 : Row)
     (c1 : Close n1 d1 T1 x1 y1) (c2 : Close n2 d2 T2 x2 y2) (c3 : Close n3 d3 T3 x3 y3) where
-
   scale : ℕ
   scale = T1 * (T2 * T3)
 
@@ -111,33 +111,33 @@ module _ (n1 n2 n3 : ℕ) (a : Table) (d1 d2 d3 T1 T2 T3 : ℕ) (x1 y1 x2 y2 x3 
   unfolding scale times-ones
   closer1 =
       closer n1 d1 T1 scale x1 y1 (λ x. weighed n1 n2 n3 a x x2 x3) (λ X. weighed n1 n2 n3 (sizes a) X (times-ones T2) (times-ones T3))
-        (bends1 n1 n2 n3 a) c1 (linear1 n1 n2 n3 a x2 x3)
-        (λ z Z u. weighed-le n1 n2 n3 a z Z x2 (times-ones T2) x3 (times-ones T3) u (x-under n2 d2 T2 x2 y2 c2) (x-under n3 d3 T3 x3 y3 c3))
-        (weighed-scale n1 n2 n3 (sizes a) (pos T1) (pos T2) (pos T3) pairs ones ones ∙ ap (λ s. pos scale *ℤ s) (bends1-is n1 n2 n3 a))
+      (bends1 n1 n2 n3 a) c1 (linear1 n1 n2 n3 a x2 x3)
+      (λ z Z u. weighed-le n1 n2 n3 a z Z x2 (times-ones T2) x3 (times-ones T3) u (x-under n2 d2 T2 x2 y2 c2) (x-under n3 d3 T3 x3 y3 c3))
+      (weighed-scale n1 n2 n3 (sizes a) (pos T1) (pos T2) (pos T3) pairs ones ones ∙ ap (λ s. pos scale *ℤ s) (bends1-is n1 n2 n3 a))
 
   closer2 : weighed n1 n2 n3 a y1 x2 x3 ≤ℤ (weighed n1 n2 n3 a y1 y2 x3 +ℤ (pos scale *ℤ bend-loss n2 d2 (bends2 n1 n2 n3 a)))
   unfolding scale times-ones
   closer2 =
       closer n2 d2 T2 scale x2 y2 (λ x. weighed n1 n2 n3 a y1 x x3) (λ X. weighed n1 n2 n3 (sizes a) (times-ones T1) X (times-ones T3))
-        (bends2 n1 n2 n3 a) c2 (linear2 n1 n2 n3 a y1 x3)
-        (λ z Z u. weighed-le n1 n2 n3 a y1 (times-ones T1) z Z x3 (times-ones T3) (y-under n1 d1 T1 x1 y1 c1) u (x-under n3 d3 T3 x3 y3 c3))
-        (weighed-scale n1 n2 n3 (sizes a) (pos T1) (pos T2) (pos T3) ones pairs ones ∙ ap (λ s. pos scale *ℤ s) (bends2-is n1 n2 n3 a))
+      (bends2 n1 n2 n3 a) c2 (linear2 n1 n2 n3 a y1 x3)
+      (λ z Z u. weighed-le n1 n2 n3 a y1 (times-ones T1) z Z x3 (times-ones T3) (y-under n1 d1 T1 x1 y1 c1) u (x-under n3 d3 T3 x3 y3 c3))
+      (weighed-scale n1 n2 n3 (sizes a) (pos T1) (pos T2) (pos T3) ones pairs ones ∙ ap (λ s. pos scale *ℤ s) (bends2-is n1 n2 n3 a))
 
   closer3 : weighed n1 n2 n3 a y1 y2 x3 ≤ℤ (weighed n1 n2 n3 a y1 y2 y3 +ℤ (pos scale *ℤ bend-loss n3 d3 (bends3 n1 n2 n3 a)))
   unfolding scale times-ones
   closer3 =
       closer n3 d3 T3 scale x3 y3 (λ x. weighed n1 n2 n3 a y1 y2 x) (λ X. weighed n1 n2 n3 (sizes a) (times-ones T1) (times-ones T2) X)
-        (bends3 n1 n2 n3 a) c3 (linear3 n1 n2 n3 a y1 y2)
-        (λ z Z u. weighed-le n1 n2 n3 a y1 (times-ones T1) y2 (times-ones T2) z Z (y-under n1 d1 T1 x1 y1 c1) (y-under n2 d2 T2 x2 y2 c2) u)
-        (weighed-scale n1 n2 n3 (sizes a) (pos T1) (pos T2) (pos T3) ones ones pairs ∙ ap (λ s. pos scale *ℤ s) (bends3-is n1 n2 n3 a))
+      (bends3 n1 n2 n3 a) c3 (linear3 n1 n2 n3 a y1 y2)
+      (λ z Z u. weighed-le n1 n2 n3 a y1 (times-ones T1) y2 (times-ones T2) z Z (y-under n1 d1 T1 x1 y1 c1) (y-under n2 d2 T2 x2 y2 c2) u)
+      (weighed-scale n1 n2 n3 (sizes a) (pos T1) (pos T2) (pos T3) ones ones pairs ∙ ap (λ s. pos scale *ℤ s) (bends3-is n1 n2 n3 a))
 
   pub close-all : weighed n1 n2 n3 a x1 x2 x3
       ≤ℤ (weighed n1 n2 n3 a y1 y2 y3
-          +ℤ (pos (T1 * (T2 * T3)) *ℤ (bend-loss n1 d1 (bends1 n1 n2 n3 a) +ℤ (bend-loss n2 d2 (bends2 n1 n2 n3 a) +ℤ bend-loss n3 d3 (bends3 n1 n2 n3 a)))))
+      +ℤ (pos (T1 * (T2 * T3)) *ℤ (bend-loss n1 d1 (bends1 n1 n2 n3 a) +ℤ (bend-loss n2 d2 (bends2 n1 n2 n3 a) +ℤ bend-loss n3 d3 (bends3 n1 n2 n3 a)))))
   unfolding scale
   close-all =
       chain (weighed n1 n2 n3 a x1 x2 x3) (weighed n1 n2 n3 a y1 x2 x3) (weighed n1 n2 n3 a y1 y2 x3) (weighed n1 n2 n3 a y1 y2 y3) (pos scale)
-        (bend-loss n1 d1 (bends1 n1 n2 n3 a)) (bend-loss n2 d2 (bends2 n1 n2 n3 a)) (bend-loss n3 d3 (bends3 n1 n2 n3 a)) closer1 closer2 closer3
+      (bend-loss n1 d1 (bends1 n1 n2 n3 a)) (bend-loss n2 d2 (bends2 n1 n2 n3 a)) (bend-loss n3 d3 (bends3 n1 n2 n3 a)) closer1 closer2 closer3
 
 -- ---- the slack
 
@@ -156,13 +156,13 @@ slack-text n1 n2 n3 a d1 d2 d3 = refl
 -- roundings and bends together stay within the slack
 pub slack-is : (n1 n2 n3 : ℕ) (a : Table) (d1 d2 d3 : ℕ)
     → (pos (((2 + n1 * d1) + n2 * d2) + n3 * d3)
-       +ℤ (pos 2 *ℤ (bend-loss n1 d1 (bends1 n1 n2 n3 a) +ℤ (bend-loss n2 d2 (bends2 n1 n2 n3 a) +ℤ bend-loss n3 d3 (bends3 n1 n2 n3 a)))))
-      ≤ℤ (pos 2 *ℤ slack n1 n2 n3 a d1 d2 d3)
+    +ℤ (pos 2 *ℤ (bend-loss n1 d1 (bends1 n1 n2 n3 a) +ℤ (bend-loss n2 d2 (bends2 n1 n2 n3 a) +ℤ bend-loss n3 d3 (bends3 n1 n2 n3 a)))))
+    ≤ℤ (pos 2 *ℤ slack n1 n2 n3 a d1 d2 d3)
 slack-is n1 n2 n3 a d1 d2 d3 =
     rw (slack-text n1 n2 n3 a d1 d2 d3)
-      (plain (n1 * d1) (n2 * d2) (n3 * d3) (bend-loss n1 d1 (bends1 n1 n2 n3 a)) (bend-loss n2 d2 (bends2 n1 n2 n3 a)) (bend-loss n3 d3 (bends3 n1 n2 n3 a))
-        (loss n1 d1 (bends1 n1 n2 n3 a)) (loss n2 d2 (bends2 n1 n2 n3 a)) (loss n3 d3 (bends3 n1 n2 n3 a))
-        (loss-is n1 d1 (bends1 n1 n2 n3 a)) (loss-is n2 d2 (bends2 n1 n2 n3 a)) (loss-is n3 d3 (bends3 n1 n2 n3 a)))
+    (plain (n1 * d1) (n2 * d2) (n3 * d3) (bend-loss n1 d1 (bends1 n1 n2 n3 a)) (bend-loss n2 d2 (bends2 n1 n2 n3 a)) (bend-loss n3 d3 (bends3 n1 n2 n3 a))
+    (loss n1 d1 (bends1 n1 n2 n3 a)) (loss n2 d2 (bends2 n1 n2 n3 a)) (loss n3 d3 (bends3 n1 n2 n3 a))
+    (loss-is n1 d1 (bends1 n1 n2 n3 a)) (loss-is n2 d2 (bends2 n1 n2 n3 a)) (loss-is n3 d3 (bends3 n1 n2 n3 a)))
   where
     plain : (e f g : ℕ) (q r s x y z : ℤ) → (pos e +ℤ (pos 2 *ℤ q)) ≤ℤ (pos 2 *ℤ x) → (pos f +ℤ (pos 2 *ℤ r)) ≤ℤ (pos 2 *ℤ y) → (pos g +ℤ (pos 2 *ℤ s)) ≤ℤ (pos 2 *ℤ z)
         → (pos (((2 + e) + f) + g) +ℤ (pos 2 *ℤ (q +ℤ (r +ℤ s)))) ≤ℤ (pos 2 *ℤ (pos 1 +ℤ (x +ℤ (y +ℤ z))))

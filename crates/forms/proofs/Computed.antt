@@ -37,8 +37,9 @@ pub at : (n : ℕ) (f : ℕ → Bool) → T (each n f) → (k : ℕ) → k < n �
 at zero f t k h = absurd (omega arith)
 at (suc n) f t k h =
     elim (le-suc-iff .0 h) [
-      inl l ↦ at n f (both-right (f n) (each n f) t) k l
-    | inr e ↦ let s : k ≡ n = omega arith in subst (λ (m : ℕ). T (f m)) (sym s) (both-left (f n) (each n f) t) ]
+      | inl l ↦ at n f (both-right (f n) (each n f) t) k l
+      | inr e ↦ let s : k ≡ n = omega arith in subst (λ (m : ℕ). T (f m)) (sym s) (both-left (f n) (each n f) t)
+    ]
 
 -- ---- factorials
 
@@ -55,5 +56,5 @@ unfolding small factorial
 factorials-small a b c al bl cl h =
     let passed : T (small a b c) = at 8 (λ z. small a b z) (at 8 (λ y. each 8 (λ z. small a y z)) (at 8 (λ x. each 8 (λ y. each 8 (λ z. small x y z))) tt a al) b bl) c cl in
     leb→le (factorial a * (factorial b * factorial c)) 25401600
-      (either-right (ltb 64 ((a + 1) * ((b + 1) * (c + 1)))) (leb (factorial a * (factorial b * factorial c)) 25401600) passed
-        (λ t. absurd (omega (arith, ltb→lt 64 ((a + 1) * ((b + 1) * (c + 1))) t))))
+    (either-right (ltb 64 ((a + 1) * ((b + 1) * (c + 1)))) (leb (factorial a * (factorial b * factorial c)) 25401600) passed
+    (λ t. absurd (omega (arith, ltb→lt 64 ((a + 1) * ((b + 1) * (c + 1))) t))))

@@ -26,10 +26,13 @@ same-place a d h = mul-assoc a (2 ^ (10 - d)) (2 ^ d) ∙ ap (λ n. a * n) (whol
 
 module _ (s : Shape) (k : ℕ) (ok : Valid s) where
   pub corner-rational : Rational (corner-point s k)
-  corner-rational = (lit≤ tt, λ v h.
-    let b : place s v + bit k v ≤ 2 ^ depth s v = omega (arith, ok .inside v h, bit-small k v) in
-    let w : 2 ^ depth s v * 2 ^ (10 - depth s v) ≡ 1024 = omega (arith, whole (depth s v) (ok .shallow v h)) in
-    omega (arith, mul-le-mul-right (2 ^ (10 - depth s v)) b))
+  corner-rational = (
+    lit≤ tt,
+    λ v h.
+        let b : place s v + bit k v ≤ 2 ^ depth s v = omega (arith, ok .inside v h, bit-small k v) in
+        let w : 2 ^ depth s v * 2 ^ (10 - depth s v) ≡ 1024 = omega (arith, whole (depth s v) (ok .shallow v h)) in
+        omega (arith, mul-le-mul-right (2 ^ (10 - depth s v)) b),
+  )
 
   pub corner-in : In (corner-point s k) s
   corner-in v h =

@@ -1,17 +1,18 @@
 -- Small laws of numbers, quotients and sums.
 --     nats      for `simp`: multiplies out and sorts sums and products of naturals
 -- Assumes nothing.
-use mathlib.Core.Path.{_≡_, refl, sym, ap, ap₂, _∙_}
-use Prim.Native.Nat.{ℕ, zero, suc, _*_, _^_, _/_, _≤_, _<_}
-use native.Mathlib.Nat.{mul-add, add-mul, mul-assoc, mul-left-comm, mul-comm, add-assoc, add-left-comm, add-comm, mul-div-le, lt-div-mul-add, pow-zero, pow-succ', zero-mul, suc-mul}
+use mathlib.Core.Path.{_≡_, refl, ap, _∙_}
+use Prim.Native.Nat.{ℕ, zero, suc, _*_, _^_, _≤_, _<_}
+use native.Mathlib.Nat.{mul-add, add-mul, mul-assoc, mul-left-comm, mul-comm, add-assoc, add-left-comm, add-comm, pow-zero, pow-succ', zero-mul, suc-mul}
 use native.Mathlib.Omega.{arith}
-use lib.IntN.{ℤ, pos, negsuc, negℤ, _+ℤ_, _*ℤ_, *ℤ-zero}
+use lib.IntN.{ℤ, pos, negsuc, negℤ, _+ℤ_, _*ℤ_}
 use lib.Signed.{_≤ℤ_}
 use lib.Pow.{pow-add}
 use Rattle.arith.specs.Rounding.{quot-down, quot-up}
 use Rattle.arith.specs.Sums.{sum}
-use Rattle.arith.proofs.Ring.{ring, lin, *ℤ-neg, neg-*ℤ, one-mul}
+use Rattle.arith.proofs.Ring.{lin, neg-*ℤ, one-mul}
 use Rattle.arith.proofs.Order.{add-le}
+use Rattle.arith.proofs.Quotients as quotients
 
 pub ruleset nats = (mul-add, add-mul, mul-assoc, mul-left-comm, mul-comm, add-assoc, add-left-comm, add-comm)
 
@@ -37,40 +38,16 @@ minus-one a = neg-*ℤ (pos 1) a ∙ ap negℤ (one-mul a)
 
 -- m times the quotient rounded down is at most z, and less than m below it
 pub quot-down-is : (z : ℤ) (m : ℕ) → 0 < m → ((pos m *ℤ quot-down z m) ≤ℤ z) × ((z +ℤ pos 1) ≤ℤ ((pos m *ℤ quot-down z m) +ℤ pos m))
-unfolding quot-down
-quot-down-is (pos a) m p = omega (arith, lin, mul-div-le a m, lt-div-mul-add {a = a} p, mul-comm m (a / m))
-quot-down-is (negsuc a) m p = omega (arith, lin, mul-div-le a m, lt-div-mul-add {a = a} p, mul-comm m (a / m))
+quot-down-is z m p = (quotients.down-below m p z, quotients.down-above m p z)
 
 pub quot-up-neg : (z : ℤ) (m : ℕ) → quot-up z m ≡ negℤ (quot-down (negℤ z) m)
 unfolding quot-up
 quot-up-neg z m = refl
 
 pub quot-up-is : (z : ℤ) (m : ℕ) → 0 < m → z ≤ℤ (pos m *ℤ quot-up z m)
-quot-up-is z m p =
-    let h : (pos m *ℤ quot-down (negℤ z) m) ≤ℤ negℤ z = quot-down-is (negℤ z) m p .0 in
-    rw (quot-up-neg z m, *ℤ-neg (pos m) (quot-down (negℤ z) m)) (omega (arith, lin))
+quot-up-is z m p = quotients.up-above m p z
 
 -- ---- sums
-
-pub sum-add : (n : ℕ) (f g : ℕ → ℤ) → sum n (λ i. f i +ℤ g i) ≡ sum n f +ℤ sum n g
-unfolding sum
-sum-add zero f g = refl
-sum-add (suc n) f g = rw (sum-add n f g) (simp ring)
-
-pub sum-scale : (n : ℕ) (c : ℤ) (f : ℕ → ℤ) → sum n (λ i. c *ℤ f i) ≡ c *ℤ sum n f
-unfolding sum
-sum-scale zero c f = sym (*ℤ-zero c)
-sum-scale (suc n) c f = rw (sum-scale n c f) (simp ring)
-
-pub sum-le : (n : ℕ) (f g : ℕ → ℤ) → ((i : ℕ) → i < n → f i ≤ℤ g i) → sum n f ≤ℤ sum n g
-unfolding sum
-sum-le zero f g h = omega (arith, lin)
-sum-le (suc n) f g h = add-le (sum-le n f g (λ i l. h i (omega arith))) (h n (omega arith))
-
-pub sum-same : (n : ℕ) (f g : ℕ → ℤ) → ((i : ℕ) → i < n → f i ≡ g i) → sum n f ≡ sum n g
-unfolding sum
-sum-same zero f g h = refl
-sum-same (suc n) f g h = ap₂ (λ x y. x +ℤ y) (sum-same n f g (λ i l. h i (omega arith))) (h n (omega arith))
 
 pub sum-most : (n : ℕ) (f : ℕ → ℤ) (B : ℕ) → ((i : ℕ) → i < n → f i ≤ℤ pos B) → sum n f ≤ℤ pos (n * B)
 unfolding sum

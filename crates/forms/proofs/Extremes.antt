@@ -34,8 +34,9 @@ unfolding least
 least-le zero r k h = let e : k ≡ 0 = omega arith in rw e (≤ℤ-refl (r 0))
 least-le (suc n) r k h =
     elim (le-suc-iff .0 h) [
-      inl l ↦ le-trans (min-left (least n r) (r (suc n))) (least-le n r k l)
-    | inr e ↦ rw e (min-right (least n r) (r (suc n))) ]
+      | inl l ↦ le-trans (min-left (least n r) (r (suc n))) (least-le n r k l)
+      | inr e ↦ rw e (min-right (least n r) (r (suc n)))
+    ]
 
 pub least-at : (n : ℕ) (r : Row) → (k : ℕ) × (k ≤ n) × (least n r ≡ r k)
 unfolding least
@@ -60,7 +61,7 @@ pub least-of-le : (n1 n2 n3 : ℕ) (T : Table) (i j k : ℕ) → i ≤ n1 → j 
 unfolding least-of
 least-of-le n1 n2 n3 T i j k a b c =
     le-trans (least-le n1 (λ i. least n2 λ j. least n3 λ k. T i j k) i a)
-      (le-trans (least-le n2 (λ j. least n3 λ k. T i j k) j b) (least-le n3 (T i j) k c))
+    (le-trans (least-le n2 (λ j. least n3 λ k. T i j k) j b) (least-le n3 (T i j) k c))
 
 -- z stands in the table
 pub record Reached (n1 n2 n3 : ℕ) (T : Table) (z : ℤ) : Type 0 where
@@ -85,8 +86,8 @@ unfolding greatest-of least-of
 greatest-of-least n1 n2 n3 T =
     greatest-least n1 (λ i. greatest n2 λ j. greatest n3 λ k. T i j k)
     ∙ ap (λ r. negℤ (least n1 r)) (fun-ext λ i.
-        ap negℤ (greatest-least n2 (λ j. greatest n3 λ k. T i j k)) ∙ negℤ-negℤ (least n2 (λ j. negℤ (greatest n3 λ k. T i j k)))
-        ∙ ap (least n2) (fun-ext λ j. ap negℤ (greatest-least n3 (T i j)) ∙ negℤ-negℤ (least n3 (λ k. negℤ (T i j k)))))
+    ap negℤ (greatest-least n2 (λ j. greatest n3 λ k. T i j k)) ∙ negℤ-negℤ (least n2 (λ j. negℤ (greatest n3 λ k. T i j k)))
+    ∙ ap (least n2) (fun-ext λ j. ap negℤ (greatest-least n3 (T i j)) ∙ negℤ-negℤ (least n3 (λ k. negℤ (T i j k)))))
 
 pub greatest-of-le : (n1 n2 n3 : ℕ) (T : Table) (i j k : ℕ) → i ≤ n1 → j ≤ n2 → k ≤ n3 → T i j k ≤ℤ greatest-of n1 n2 n3 T
 greatest-of-le n1 n2 n3 T i j k a b c =
@@ -96,8 +97,15 @@ greatest-of-le n1 n2 n3 T i j k a b c =
 pub greatest-of-at : (n1 n2 n3 : ℕ) (T : Table) → Reached n1 n2 n3 T (greatest-of n1 n2 n3 T)
 greatest-of-at n1 n2 n3 T =
     let s = least-of-at n1 n2 n3 (λ i j k. negℤ (T i j k)) in
-    record { i = s .i; j = s .j; k = s .k; i-le = s .i-le; j-le = s .j-le; k-le = s .k-le;
-      is = greatest-of-least n1 n2 n3 T ∙ ap negℤ (s .is) ∙ negℤ-negℤ (T (s .i) (s .j) (s .k)) }
+    record {
+      i = s .i;
+      j = s .j;
+      k = s .k;
+      i-le = s .i-le;
+      j-le = s .j-le;
+      k-le = s .k-le;
+      is = greatest-of-least n1 n2 n3 T ∙ ap negℤ (s .is) ∙ negℤ-negℤ (T (s .i) (s .j) (s .k));
+    }
 
 -- ---- a number with both laws is the least, or the greatest
 
@@ -106,11 +114,11 @@ pub least-of-only : (n1 n2 n3 : ℕ) (T : Table) (z : ℤ) → ((i j k : ℕ) �
 least-of-only n1 n2 n3 T z h r =
     let s = least-of-at n1 n2 n3 T in
     antisym (le-trans (h (s .i) (s .j) (s .k) (s .i-le) (s .j-le) (s .k-le)) (le-eq (sym (s .is))))
-      (le-trans (least-of-le n1 n2 n3 T (r .i) (r .j) (r .k) (r .i-le) (r .j-le) (r .k-le)) (le-eq (sym (r .is))))
+    (le-trans (least-of-le n1 n2 n3 T (r .i) (r .j) (r .k) (r .i-le) (r .j-le) (r .k-le)) (le-eq (sym (r .is))))
 
 pub greatest-of-only : (n1 n2 n3 : ℕ) (T : Table) (z : ℤ) → ((i j k : ℕ) → i ≤ n1 → j ≤ n2 → k ≤ n3 → T i j k ≤ℤ z) → Reached n1 n2 n3 T z
     → z ≡ greatest-of n1 n2 n3 T
 greatest-of-only n1 n2 n3 T z h r =
     let s = greatest-of-at n1 n2 n3 T in
     antisym (le-trans (le-eq (r .is)) (greatest-of-le n1 n2 n3 T (r .i) (r .j) (r .k) (r .i-le) (r .j-le) (r .k-le)))
-      (le-trans (le-eq (s .is)) (h (s .i) (s .j) (s .k) (s .i-le) (s .j-le) (s .k-le)))
+    (le-trans (le-eq (s .is)) (h (s .i) (s .j) (s .k) (s .i-le) (s .j-le) (s .k-le)))

@@ -59,7 +59,7 @@ unfolding rounds
 rounds-keep P f g step n l r h zero i le = h i (omega arith)
 rounds-keep P f g step n l r h (suc t) i le =
     step t (rounds f t l i) (rounds f t l (suc i)) (rounds g t r i) (rounds g t r (suc i))
-      (rounds-keep P f g step n l r h t i (omega arith)) (rounds-keep P f g step n l r h t (suc i) (omega arith))
+    (rounds-keep P f g step n l r h t i (omega arith)) (rounds-keep P f g step n l r h t (suc i) (omega arith))
 
 -- so it holds of what a halving keeps
 pub kept-keep : (P : ℤ → ℤ → Type 0) (f g : ℤ → ℤ → ℤ) → ((a b x y : ℤ) → P a x → P b y → P (f a b) (g x y))
@@ -120,9 +120,9 @@ unfolding ev
 ev-lower w u zero r = half-none zero r
 ev-lower w u (suc n) r =
     ap₂ (λ x y. (w *ℤ x) +ℤ (u *ℤ y))
-      (ev-reads w u n (half (suc n) zero r) (λ k. pos 2 *ℤ half n zero r k) (lower-first n r) ∙ ev-scale w u n (pos 2) (half n zero r) ∙ ap (λ z. pos 2 *ℤ z) (ev-lower w u n r))
-      (ev-reads w u n (shift (half (suc n) zero r)) (λ k. half n zero r k +ℤ half n zero (shift r) k) (λ k h. lower-next n r k)
-       ∙ ev-add w u n (half n zero r) (half n zero (shift r)) ∙ ap₂ _+ℤ_ (ev-lower w u n r) (ev-lower w u n (shift r)))
+    (ev-reads w u n (half (suc n) zero r) (λ k. pos 2 *ℤ half n zero r k) (lower-first n r) ∙ ev-scale w u n (pos 2) (half n zero r) ∙ ap (λ z. pos 2 *ℤ z) (ev-lower w u n r))
+    (ev-reads w u n (shift (half (suc n) zero r)) (λ k. half n zero r k +ℤ half n zero (shift r) k) (λ k h. lower-next n r k)
+    ∙ ev-add w u n (half n zero r) (half n zero (shift r)) ∙ ap₂ _+ℤ_ (ev-lower w u n r) (ev-lower w u n (shift r)))
     ∙ lower-ring w u (ev ((w +ℤ w) +ℤ u) u n r) (ev ((w +ℤ w) +ℤ u) u n (shift r))
 
 pub ev-upper : (w u : ℤ) (n b : ℕ) (r : Row) → ev w u n (half n (suc b) r) ≡ ev w (w +ℤ (u +ℤ u)) n r
@@ -130,10 +130,10 @@ unfolding ev
 ev-upper w u zero b r = half-none (suc b) r
 ev-upper w u (suc n) b r =
     ap₂ (λ x y. (w *ℤ x) +ℤ (u *ℤ y))
-      (ev-reads w u n (half (suc n) (suc b) r) (λ k. half n (suc b) r k +ℤ half n (suc b) (shift r) k) (upper-first n b r)
-       ∙ ev-add w u n (half n (suc b) r) (half n (suc b) (shift r)) ∙ ap₂ _+ℤ_ (ev-upper w u n b r) (ev-upper w u n b (shift r)))
-      (ev-reads w u n (shift (half (suc n) (suc b) r)) (λ k. pos 2 *ℤ half n (suc b) (shift r) k) (λ k h. upper-next n b r k)
-       ∙ ev-scale w u n (pos 2) (half n (suc b) (shift r)) ∙ ap (λ z. pos 2 *ℤ z) (ev-upper w u n b (shift r)))
+    (ev-reads w u n (half (suc n) (suc b) r) (λ k. half n (suc b) r k +ℤ half n (suc b) (shift r) k) (upper-first n b r)
+    ∙ ev-add w u n (half n (suc b) r) (half n (suc b) (shift r)) ∙ ap₂ _+ℤ_ (ev-upper w u n b r) (ev-upper w u n b (shift r)))
+    (ev-reads w u n (shift (half (suc n) (suc b) r)) (λ k. pos 2 *ℤ half n (suc b) (shift r) k) (λ k h. upper-next n b r k)
+    ∙ ev-scale w u n (pos 2) (half n (suc b) (shift r)) ∙ ap (λ z. pos 2 *ℤ z) (ev-upper w u n b (shift r)))
     ∙ upper-ring w u (ev w (w +ℤ (u +ℤ u)) n r) (ev w (w +ℤ (u +ℤ u)) n (shift r))
 
 -- the pairs w, u of a half and of the whole row
@@ -157,13 +157,13 @@ digit-step n d q p zero w u v x E r e l a s more =
     let p-is : p ≡ 2 * q = omega arith in
     ev-lower w u n r
     ∙ more ((w +ℤ w) +ℤ u) u
-        (a ∙ ap (λ y. (pos y *ℤ (w +ℤ u)) +ℤ u) p-is ∙ lower-place (pos q) w u)
-        (s ∙ ap (λ y. pos y *ℤ (w +ℤ u)) (pow-succ' 2 d) ∙ lower-size (pos (2 ^ d)) w u)
+    (a ∙ ap (λ y. (pos y *ℤ (w +ℤ u)) +ℤ u) p-is ∙ lower-place (pos q) w u)
+    (s ∙ ap (λ y. pos y *ℤ (w +ℤ u)) (pow-succ' 2 d) ∙ lower-size (pos (2 ^ d)) w u)
 digit-step n d q p (suc zero) w u v x E r e l a s more =
     ev-upper w u n zero r
     ∙ more w (w +ℤ (u +ℤ u))
-        (a ∙ ap (λ y. (pos y *ℤ (w +ℤ u)) +ℤ u) e ∙ upper-place (pos q) w u)
-        (s ∙ ap (λ y. pos y *ℤ (w +ℤ u)) (pow-succ' 2 d) ∙ upper-size (pos (2 ^ d)) w u)
+    (a ∙ ap (λ y. (pos y *ℤ (w +ℤ u)) +ℤ u) e ∙ upper-place (pos q) w u)
+    (s ∙ ap (λ y. pos y *ℤ (w +ℤ u)) (pow-succ' 2 d) ∙ upper-size (pos (2 ^ d)) w u)
 digit-step n d q p (suc (suc b)) w u v x E r e l a s more = absurd (omega arith)
 
 -- all digits: the pair w, u of the part stands for the pair v, x of the whole row
@@ -179,7 +179,7 @@ ev-deep n zero p w u v x r h a b =
 ev-deep n (suc d) p w u v x r h a b =
     let h2 : p < 2 * 2 ^ d = rw (pow-succ' 2 d) at h in
     digit-step n d (p / 2) p (p % 2) w u v x (ev v x n r) (deep (half n) d (p / 2) r) (omega arith) (omega arith) a b
-      (λ w′ u′ a′ b′. ev-deep n d (p / 2) w′ u′ v x r (omega arith) a′ b′)
+    (λ w′ u′ a′ b′. ev-deep n d (p / 2) w′ u′ v x r (omega arith) a′ b′)
 
 -- ---- halving and differences
 
@@ -240,8 +240,8 @@ rounds-le : (c M : ℤ) (n : ℕ) (r : Row) → ((k : ℕ) → k ≤ n → (c *�
     → (t i : ℕ) → i + t ≤ n → (c *ℤ rounds _+ℤ_ t r i) ≤ℤ (pos (2 ^ t) *ℤ M)
 rounds-le c M n r h t i le =
     rounds-keep (λ t a x. (c *ℤ x) ≤ℤ (pos (2 ^ t) *ℤ M)) _+ℤ_ _+ℤ_
-      (λ t a b x y p q. rw (doubled t M, *ℤ-+ℤ c x y) (add-le p q)) n r r
-      (λ k l. rw (one-mul M) (h k l)) t i le
+    (λ t a b x y p q. rw (doubled t M, *ℤ-+ℤ c x y) (add-le p q)) n r r
+    (λ k l. rw (one-mul M) (h k l)) t i le
 
 -- a row with c · r ≤ M has a half with c · half ≤ 2^n · M
 powers : (n k : ℕ) → k ≤ n → 2 ^ (n - k) * 2 ^ k ≡ 2 ^ n
@@ -257,7 +257,7 @@ half-le c M n zero r h k le =
     times-le (2 ^ (n - k)) (2 ^ k) (2 ^ n) c (rounds _+ℤ_ k r 0) M (powers n k le) (rounds-le c M n r h k 0 (omega arith))
 half-le c M n (suc b) r h k le =
     times-le (2 ^ k) (2 ^ (n - k)) (2 ^ n) c (rounds _+ℤ_ (n - k) r k) M (mul-comm (2 ^ k) (2 ^ (n - k)) ∙ powers n k le)
-      (rounds-le c M n r h (n - k) k (omega arith))
+    (rounds-le c M n r h (n - k) k (omega arith))
 
 next-power : (n d : ℕ) (M : ℤ) → pos (2 ^ (n * suc d)) *ℤ M ≡ pos (2 ^ n) *ℤ (pos (2 ^ (n * d)) *ℤ M)
 next-power n d M =
@@ -268,8 +268,8 @@ pub deep-le : (c M : ℤ) (n : ℕ) (r : Row) → ((k : ℕ) → k ≤ n → (c 
     → (d p k : ℕ) → k ≤ n → (c *ℤ deep (half n) d p r k) ≤ℤ (pos (2 ^ (n * d)) *ℤ M)
 deep-le c M n r h d p k le =
     deep-keep (λ d a x. (c *ℤ x) ≤ℤ (pos (2 ^ (n * d)) *ℤ M)) (half n) (half n) n
-      (λ d b l x q i j. rw (next-power n d M) (half-le c (pos (2 ^ (n * d)) *ℤ M) n b x q i j)) r r
-      (λ i j. rw (mul-zero n, one-mul M) (h i j)) d p k le
+    (λ d b l x q i j. rw (next-power n d M) (half-le c (pos (2 ^ (n * d)) *ℤ M) n b x q i j)) r r
+    (λ i j. rw (mul-zero n, one-mul M) (h i j)) d p k le
 
 -- a bound of the second differences falls to a quarter with each digit
 pub deep-bend : (c M : ℤ) (m : ℕ) (r : Row) → ((k : ℕ) → k ≤ m → (c *ℤ bend r k) ≤ℤ M)
@@ -280,13 +280,14 @@ deep-bend c M m r h (suc d) p k le =
     let N : ℤ = pos (2 ^ (suc (suc m) * d)) *ℤ M in
     let B : Row = bend (deep (half (suc (suc m))) d (p / 2) r) in
     let q : ((pos (4 ^ d) *ℤ c) *ℤ half m (p % 2) B k) ≤ℤ (pos (2 ^ m) *ℤ N) =
-      half-le (pos (4 ^ d) *ℤ c) N m (p % 2) B (deep-bend c M m r h d (p / 2)) k le in
+    half-le (pos (4 ^ d) *ℤ c) N m (p % 2) B (deep-bend c M m r h d (p / 2)) k le in
     rw (bend-half m (p % 2) (deep (half (suc (suc m))) d (p / 2) r) k le, next-power (suc (suc m)) d M, four-more m N, pow-succ' 4 d)
-      (rw (four-left (pos (4 ^ d)) c (half m (p % 2) B k)) (mul-le 4 q))
+    (rw (four-left (pos (4 ^ d)) c (half m (p % 2) B k)) (mul-le 4 q))
   where
     four-more : (m : ℕ) (N : ℤ) → pos (2 ^ suc (suc m)) *ℤ N ≡ pos 4 *ℤ (pos (2 ^ m) *ℤ N)
     four-more m N =
         let e : 2 ^ suc (suc m) ≡ 4 * 2 ^ m = omega (arith, pow-succ' 2 (suc m), pow-succ' 2 m) in
         ap (λ y. pos y *ℤ N) e ∙ *ℤ-assoc (pos 4) (pos (2 ^ m)) N
+
     four-left : (f c x : ℤ) → ((pos 4 *ℤ f) *ℤ c) *ℤ x ≡ pos 4 *ℤ ((f *ℤ c) *ℤ x)
     four-left f c x = simp ring

@@ -14,6 +14,7 @@ use Rattle.arith.proofs.Sums.{sum-none, sum-first, sum-last, sum-ext, sum-add, 
 use Rattle.arith.proofs.Products.{encloses, low-le-high, low-kept, high-kept, width-bounded}
 use Rattle.mapping.specs.Polynomials.{share}
 use Rattle.forms.specs.Nested.{horner}
+use Rattle.forms.specs.Worked.{Within}
 
 pub horner-none : (by : ℤ → ℤ) (r : ℕ → ℤ) → horner by 0 r ≡ r 0
 unfolding horner
@@ -56,15 +57,14 @@ unfolding exact
 exact-more u D n x =
     sum-first (suc n) (λ k. x k *ℤ pos (share (suc n) k u D))
     ∙ ap₂ _+ℤ_ (ap (λ a. x 0 *ℤ pos a) (share-first (suc n) u D))
-      (sum-ext (suc n) (λ k. x (suc k) *ℤ pos (share (suc n) (suc k) u D)) (λ k. (x (suc k) *ℤ pos (share n k u D)) *ℤ pos u)
-        (λ k l. ap (λ a. x (suc k) *ℤ pos a) (share-next n k u D) ∙ sym (*ℤ-assoc (x (suc k)) (pos (share n k u D)) (pos u)))
-      ∙ sum-scale-right (suc n) (pos u) (λ k. x (suc k) *ℤ pos (share n k u D)))
+    (sum-ext (suc n) (λ k. x (suc k) *ℤ pos (share (suc n) (suc k) u D)) (λ k. (x (suc k) *ℤ pos (share n k u D)) *ℤ pos u)
+    (λ k l. ap (λ a. x (suc k) *ℤ pos a) (share-next n k u D) ∙ sym (*ℤ-assoc (x (suc k)) (pos (share n k u D)) (pos u)))
+    ∙ sum-scale-right (suc n) (pos u) (λ k. x (suc k) *ℤ pos (share n k u D)))
     ∙ +ℤ-comm (x 0 *ℤ pos (D ^ suc n)) (sum (suc n) (λ k. x (suc k) *ℤ pos (share n k u D)) *ℤ pos u)
 
 -- ---- a bound of the numbers, times how many they are
 pub horner-bounded : (by : ℤ → ℤ) → ((p : ℤ) → Bound-kept p (by p)) → (B n : ℕ) (r : ℕ → ℤ)
-  → ((k : ℕ) → k ≤ n → (negℤ (pos B) ≤ℤ r k) × (r k ≤ℤ pos B))
-  → (negℤ (pos (suc n * B)) ≤ℤ horner by n r) × (horner by n r ≤ℤ pos (suc n * B))
+    → ((k : ℕ) → k ≤ n → Within B (r k)) → Within (suc n * B) (horner by n r)
 unfolding horner
 horner-bounded by kept B zero r h = omega (arith, lin, h 0 (omega arith))
 horner-bounded by kept B (suc n) r h =
@@ -108,10 +108,10 @@ apart a b c d = omega (arith, lin)
 
 -- one product and one number more
 width-step : (m c n : ℕ) (y x w t T A M : ℤ)
-  → (pos m *ℤ y) ≤ℤ ((pos m *ℤ x) +ℤ (A +ℤ pos (2 * m)))
-  → (pos (m * c) *ℤ x) ≤ℤ ((pos m *ℤ T) +ℤ (pos c *ℤ (M +ℤ pos (2 * n * m))))
-  → (pos c *ℤ w) ≤ℤ t
-  → (pos (m * c) *ℤ (y +ℤ w)) ≤ℤ ((pos m *ℤ (t +ℤ T)) +ℤ (pos c *ℤ ((M +ℤ A) +ℤ pos (2 * n * m + 2 * m))))
+    → (pos m *ℤ y) ≤ℤ ((pos m *ℤ x) +ℤ (A +ℤ pos (2 * m)))
+    → (pos (m * c) *ℤ x) ≤ℤ ((pos m *ℤ T) +ℤ (pos c *ℤ (M +ℤ pos (2 * n * m))))
+    → (pos c *ℤ w) ≤ℤ t
+    → (pos (m * c) *ℤ (y +ℤ w)) ≤ℤ ((pos m *ℤ (t +ℤ T)) +ℤ (pos c *ℤ ((M +ℤ A) +ℤ pos (2 * n * m + 2 * m))))
 width-step m c n y x w t T A M p q s =
     let a : (pos c *ℤ (pos m *ℤ y)) ≤ℤ (pos c *ℤ ((pos m *ℤ x) +ℤ (A +ℤ pos (2 * m)))) = mul-le c p in
     let b : (pos m *ℤ (pos c *ℤ w)) ≤ℤ (pos m *ℤ t) = mul-le m s in
@@ -126,6 +126,10 @@ joined a b W D n =
     +ℤ-*ℤ a b (pos (W * D ^ suc n))
     ∙ ap₂ _+ℤ_ (ap (λ x. a *ℤ pos x) (ap (λ x. W * x) (pow-suc D n) ∙ sym (mul-assoc W (D ^ n) D))) (sym (*ℤ-assoc b (pos W) (pos (D ^ suc n))))
 
+-- x / W lies between l and h
+abbrev pub Between : (W : ℕ) (l h x : ℤ) → Type 0
+Between W l h x = ((l *ℤ pos W) ≤ℤ x) × (x ≤ℤ (h *ℤ pos W))
+
 module _ (e f d : ℕ) where
   abbrev pub low : ℤ → ℤ
   low p = low-times p e f d
@@ -133,9 +137,8 @@ module _ (e f d : ℕ) where
   abbrev pub high : ℤ → ℤ
   high r = high-times r e f d
 
-  pub row-encloses : (u D W : ℕ) → e * D ≤ u * 2 ^ d → u * 2 ^ d ≤ f * D → (n : ℕ) (l h x : ℕ → ℤ)
-    → ((k : ℕ) → ((l k *ℤ pos W) ≤ℤ x k) × (x k ≤ℤ (h k *ℤ pos W)))
-    → ((horner low n l *ℤ pos (W * D ^ n)) ≤ℤ exact u D n x) × (exact u D n x ≤ℤ (horner high n h *ℤ pos (W * D ^ n)))
+  pub row-encloses : (u D W : ℕ) → e * D ≤ u * 2 ^ d → u * 2 ^ d ≤ f * D → (n : ℕ) (l h x : ℕ → ℤ) → ((k : ℕ) → Between W (l k) (h k) (x k)) →
+      Between (W * D ^ n) (horner low n l) (horner high n h) (exact u D n x)
   unfolding horner
   row-encloses u D W from to zero l h x b =
       let one : W * D ^ 0 ≡ W = ap (λ a. W * a) (pow-zero D) ∙ omega arith in
@@ -150,21 +153,22 @@ module _ (e f d : ℕ) where
       let j = joined (high (horner high n h′)) (h 0) W D n in
       rw (exact-more u D n x) (
         le-trans (le-eq i) (add-le (p .0) (mul-le-right (D ^ suc n) (b 0 .0))),
-        le-trans (add-le (p .1) (mul-le-right (D ^ suc n) (b 0 .1))) (le-eq (sym j)))
+        le-trans (add-le (p .1) (mul-le-right (D ^ suc n) (b 0 .1))) (le-eq (sym j)),
+      )
 
   module _ (ordered : e ≤ f) (within : f ≤ 2 ^ d) (close : f ≤ e + 1) where
     -- the product of an enclosure that is at most a from 0
     product-span : (p r : ℤ) (a : ℕ) → p ≤ℤ r → p ≤ℤ pos a → negℤ (pos a) ≤ℤ r
-      → (low p ≤ℤ high r) × (low p ≤ℤ pos a) × (negℤ (pos a) ≤ℤ high r)
-      × ((pos (2 ^ d) *ℤ (high r -ℤ low p)) ≤ℤ ((pos (2 ^ d) *ℤ (r -ℤ p)) +ℤ pos (a + 2 * 2 ^ d)))
+        → (low p ≤ℤ high r) × (low p ≤ℤ pos a) × (negℤ (pos a) ≤ℤ high r)
+        × ((pos (2 ^ d) *ℤ (high r -ℤ low p)) ≤ℤ ((pos (2 ^ d) *ℤ (r -ℤ p)) +ℤ pos (a + 2 * 2 ^ d)))
     product-span p r a o x y =
         (low-le-high p r e f d o, low-kept p e f d (omega arith) within a .1 x, high-kept r e f d (omega arith) within a .0 y, width-bounded e f d ordered within p r a o close x y)
 
     -- one product and one number more, where the row so far is at most k from 0
     row-step : (c n k : ℕ) (L H T M l h a t : ℤ)
-      → Span (2 ^ d * c) L H (pos k) ((pos (2 ^ d) *ℤ T) +ℤ (pos c *ℤ (M +ℤ pos (2 * n * 2 ^ d))))
-      → Span c l h a t
-      → Span (2 ^ d * c) (low L +ℤ l) (high H +ℤ h) (a +ℤ pos k) ((pos (2 ^ d) *ℤ (t +ℤ T)) +ℤ (pos c *ℤ ((M +ℤ pos k) +ℤ pos (2 * n * 2 ^ d + 2 * 2 ^ d))))
+        → Span (2 ^ d * c) L H (pos k) ((pos (2 ^ d) *ℤ T) +ℤ (pos c *ℤ (M +ℤ pos (2 * n * 2 ^ d))))
+        → Span c l h a t
+        → Span (2 ^ d * c) (low L +ℤ l) (high H +ℤ h) (a +ℤ pos k) ((pos (2 ^ d) *ℤ (t +ℤ T)) +ℤ (pos c *ℤ ((M +ℤ pos k) +ℤ pos (2 * n * 2 ^ d + 2 * 2 ^ d))))
     row-step c n k L H T M l h a t s b =
         let p = product-span L H k (s .0) (s .2) (s .3) in
         let w = width-step (2 ^ d) c n (high H -ℤ low L) (H -ℤ L) (h -ℤ l) t T (pos k) M (p .3) (s .4) (b .4) in
@@ -172,7 +176,7 @@ module _ (e f d : ℕ) where
         (add-le (p .0) (b .0), omega (arith, lin, b .1), omega (arith, lin, p .1, b .2), omega (arith, lin, p .2, b .3), rw i w)
 
     pub row-span : (c n : ℕ) (l h a t : ℕ → ℤ) → ((k : ℕ) → Span c (l k) (h k) (a k) (t k))
-      → Span (2 ^ d * c) (horner low n l) (horner high n h) (sum (suc n) a) (spread c (2 ^ d) n a t)
+        → Span (2 ^ d * c) (horner low n l) (horner high n h) (sum (suc n) a) (spread c (2 ^ d) n a t)
     unfolding horner
     row-span c zero l h a t b =
         let w : (pos (2 ^ d) *ℤ (pos c *ℤ (h 0 -ℤ l 0))) ≤ℤ (pos (2 ^ d) *ℤ t 0) = mul-le (2 ^ d) (b 0 .4) in
@@ -191,7 +195,7 @@ module _ (e f d : ℕ) where
         let M = sum (suc n) (λ k. pos k *ℤ a′ k) in
         let T = sum (suc n) t′ in
         let P : ℤ → Type 0 = λ A. Span (2 ^ d * c) (horner low n l′) (horner high n h′) A (spread c (2 ^ d) n a′ t′)
-          → Span (2 ^ d * c) (low (horner low n l′) +ℤ l 0) (high (horner high n h′) +ℤ h 0) (a 0 +ℤ A) ((pos (2 ^ d) *ℤ (t 0 +ℤ T)) +ℤ (pos c *ℤ ((M +ℤ A) +ℤ pos (2 * n * 2 ^ d + 2 * 2 ^ d)))) in
+        → Span (2 ^ d * c) (low (horner low n l′) +ℤ l 0) (high (horner high n h′) +ℤ h 0) (a 0 +ℤ A) ((pos (2 ^ d) *ℤ (t 0 +ℤ T)) +ℤ (pos c *ℤ ((M +ℤ A) +ℤ pos (2 * n * 2 ^ d + 2 * 2 ^ d)))) in
         let s = subst P (sym (k .1)) (λ s. row-step c n (k .0) (horner low n l′) (horner high n h′) T M (l 0) (h 0) (a 0) (t 0) s (b 0)) ih in
         let i : 2 * suc n * 2 ^ d ≡ 2 * n * 2 ^ d + 2 * 2 ^ d = twice-more n (2 ^ d) in
         rw (sum-first (suc n) a, sum-first (suc n) t, weighed-first n a, i) s

@@ -69,7 +69,7 @@ module _ (m : Mapping) where
               let first : (i : ℕ) → 0 * (degree m 0 + 1) + i ≡ i = λ i. omega arith in
               is-1 0 (lit< tt)
               ∙ horner-ext by₁ (degree m 0) (λ i. getD zs (0 * (degree m 0 + 1) + i) (pos 0)) (λ i. horner by₂ (degree m 1) (λ j. horner by₃ (degree m 2) (λ k. coefficient m i j k)))
-                (λ i l. ap (λ x. getD zs x (pos 0)) (first i) ∙ rows-2 i l)
+              (λ i l. ap (λ x. getD zs x (pos 0)) (first i) ∙ rows-2 i l)
 
           -- as it is read back from 64 bits
           pub worked-off : toZ w64 (ofZ w64 (getD os 0 (pos 0))) ≡ horner by₁ (degree m 0) (λ i. horner by₂ (degree m 1) (λ j. horner by₃ (degree m 2) (λ k. coefficient m i j k)))

@@ -29,7 +29,7 @@ unfolding deep
 deep-next g d p t r h =
     let e : d - t ≡ suc (d - suc t) = omega arith in
     let f : p / 2 ^ (d - suc t) / 2 ≡ p / 2 ^ (d - t) =
-      div-div-eq-div-mul p (2 ^ (d - suc t)) 2 ∙ ap (λ x. p / x) (sym (pow-suc 2 (d - suc t)) ∙ ap (λ x. 2 ^ x) (sym e)) in
+    div-div-eq-div-mul p (2 ^ (d - suc t)) 2 ∙ ap (λ x. p / x) (sym (pow-suc 2 (d - suc t)) ∙ ap (λ x. 2 ^ x) (sym e)) in
     ap (λ q. g (digit d p t) (deep g t q r)) f
 
 -- no digit yet, and all digits
@@ -79,7 +79,6 @@ partly-end f n b r k h = let e : min n (n - k) ≡ n - k = omega arith in rw e
 -- ---- on arrays
 
 module _ (f : ℤ → ℤ → ℤ) (n : ℕ) (r : Row) where
-
   -- the array of the rounds: at the start, after one more round, and after all
   pub upper-start : (xs : List ℤ) → Holds n xs r → Holds n xs (partly f n 0 r)
   upper-start xs h k l = h k l ∙ sym (partly-start f n r k)
@@ -89,11 +88,11 @@ module _ (f : ℤ → ℤ → ℤ) (n : ℕ) (r : Row) where
       → ((k : ℕ) → n - t ≤ k → numbers ys k ≡ numbers xs k) → Holds n ys (partly f n (t + 1) r)
   upper-more t xs ys t-lt h new rest k l =
       rw (add-one t)
-        (⊎-elim
-          (λ (b : k < n - t).
-            new k b ∙ ap₂ f (h k l) (ap (numbers xs) (add-one k) ∙ h (suc k) (omega arith)) ∙ sym (partly-step f n t r k (omega arith)))
-          (λ (b : n - t ≤ k). rest k b ∙ h k l ∙ sym (partly-rest f n t r k (omega arith)))
-          (cases-lt k (n - t)))
+      (⊎-elim
+      (λ (b : k < n - t).
+      new k b ∙ ap₂ f (h k l) (ap (numbers xs) (add-one k) ∙ h (suc k) (omega arith)) ∙ sym (partly-step f n t r k (omega arith)))
+      (λ (b : n - t ≤ k). rest k b ∙ h k l ∙ sym (partly-rest f n t r k (omega arith)))
+      (cases-lt k (n - t)))
 
   pub upper-end : (b t : ℕ) (xs : List ℤ) → t ≡ n → ¬ (b ≡ 0) → Holds n xs (partly f n t r) → Holds n xs (kept f n b r)
   upper-end zero t xs e b0 h k l = absurd (b0 refl)
@@ -109,20 +108,20 @@ module _ (f : ℤ → ℤ → ℤ) (n : ℕ) (r : Row) where
       → z ≡ numbers ys 0 → Holds (t + 1) (set xs (t + 1) z) (kept f n 0 r)
   lower-more t xs ys z t-lt len h up e k l =
       ⊎-elim
-        (λ (s : k ≡ t + 1).
-          ap (numbers (set xs (t + 1) z)) s ∙ getD-set-same xs (t + 1) z (pos 0) len
-          ∙ e ∙ up 0 (omega arith) ∙ partly-first f n (t + 1) r (omega arith) ∙ ap (kept f n 0 r) (sym s))
-        (λ (s : k ≡ t + 1 → ⊥). getD-set-other xs (t + 1) k z (pos 0) s ∙ h k (omega arith))
-        (cases-eq k (t + 1))
+      (λ (s : k ≡ t + 1).
+      ap (numbers (set xs (t + 1) z)) s ∙ getD-set-same xs (t + 1) z (pos 0) len
+      ∙ e ∙ up 0 (omega arith) ∙ partly-first f n (t + 1) r (omega arith) ∙ ap (kept f n 0 r) (sym s))
+      (λ (s : k ≡ t + 1 → ⊥). getD-set-other xs (t + 1) k z (pos 0) s ∙ h k (omega arith))
+      (cases-eq k (t + 1))
 
   -- one more digit
   pub digit-more : (d p t b : ℕ) (xs ys : List ℤ) → t < d → b ≡ digit d p t → Holds n xs (deep (kept f n) t (p / 2 ^ (d - t)) r)
       → Holds n ys (kept f n b (numbers xs)) → Holds n ys (deep (kept f n) (t + 1) (p / 2 ^ (d - (t + 1))) r)
   digit-more d p t b xs ys t-lt e h g k l =
       rw (add-one t)
-        (g k l ∙ kept-reads f n b (numbers xs) (deep (kept f n) t (p / 2 ^ (d - t)) r) h k l
-         ∙ ap (λ c. kept f n c (deep (kept f n) t (p / 2 ^ (d - t)) r) k) e
-         ∙ ap (λ s. s k) (sym (deep-next (kept f n) d p t r t-lt)))
+      (g k l ∙ kept-reads f n b (numbers xs) (deep (kept f n) t (p / 2 ^ (d - t)) r) h k l
+      ∙ ap (λ c. kept f n c (deep (kept f n) t (p / 2 ^ (d - t)) r) k) e
+      ∙ ap (λ s. s k) (sym (deep-next (kept f n) d p t r t-lt)))
 
   pub digits-end : (d p t : ℕ) (xs : List ℤ) → t ≡ d → Holds n xs (deep (kept f n) t (p / 2 ^ (d - t)) r) → Holds n xs (deep (kept f n) d p r)
   digits-end d p t xs e h k l = h k l ∙ ap (λ s. deep (kept f n) s (p / 2 ^ (d - s)) r k) e ∙ ap (λ s. s k) (deep-all (kept f n) d p r)

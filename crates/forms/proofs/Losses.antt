@@ -16,9 +16,10 @@ use Rattle.mapping.specs.Cells.{depth}
 use Rattle.mapping.specs.Values.{degree}
 use Rattle.mapping.specs.declared.mapping.Mapping.{Mapping}
 use Rattle.mapping.specs.declared.cell.Cell.{Cell}
-use Rattle.forms.specs.Bernstein.{bernstein, bends}
+use Rattle.forms.specs.Bernstein.{bernstein}
+use Rattle.forms.specs.Stages.{bends}
 use Rattle.forms.specs.Tables.{loss, slack}
-use Rattle.forms.proofs.Between.{Between, loss-between}
+use Rattle.forms.proofs.Between.{loss-between}
 use Rattle.forms.proofs.Extra.{pow-pow}
 
 -- ---- the divisor
@@ -71,15 +72,15 @@ pub loss-word : (n d D : ℕ) (S b x y : ℤ) → n * d ≤ 70 → D ≡ 2 * n *
 loss-word n d D S b x y small e D0 fx fy fb half bent is =
     let fits : n * d < 2 ^ 63 = omega arith in
     ap₂ _+ℤ_
-      (toZ-ofZ w64 x fx ∙ half ∙ ap (λ z. quot-up z 2) (toZ-pos w64 (n * d) fits))
-      (toZ-ofZ w64 y fy ∙ bent ∙ ap₂ quot-up (toZ-ofZ w64 b fb ∙ is) e)
+    (toZ-ofZ w64 x fx ∙ half ∙ ap (λ z. quot-up z 2) (toZ-pos w64 (n * d) fits))
+    (toZ-ofZ w64 y fy ∙ bent ∙ ap₂ quot-up (toZ-ofZ w64 b fb ∙ is) e)
     ∙ loss-some n d S (omega arith)
 
 -- ---- the sum of three
 
 pub slack-word : (x y z : ℤ) → pos 0 ≤ℤ x → x ≤ℤ pos (2 ^ 44) → pos 0 ≤ℤ y → y ≤ℤ pos (2 ^ 44) → pos 0 ≤ℤ z → z ≤ℤ pos (2 ^ 44)
     → toZ w64 (ofZ w64 (pos 1 +ℤ toZ w64 (ofZ w64 (toZ w64 (ofZ w64 x) +ℤ toZ w64 (ofZ w64 (toZ w64 (ofZ w64 y) +ℤ toZ w64 (ofZ w64 z)))))))
-      ≡ pos 1 +ℤ (x +ℤ (y +ℤ z))
+    ≡ pos 1 +ℤ (x +ℤ (y +ℤ z))
 slack-word x y z xl xm yl ym zl zm =
     let fx : SFits w64 x = omega (arith, lin, fits-in) in
     let fy : SFits w64 y = omega (arith, lin, fits-in) in

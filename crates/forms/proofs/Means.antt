@@ -1,13 +1,12 @@
 -- Means of two numbers of 64 bits, as a shift of their sum in 128 bits gives them. Assumes nothing.
-use mathlib.Core.Path.{_≡_, refl, sym, ap, _∙_}
-use Prim.Native.Nat.{ℕ, _+_, _^_, _<_, _≤_}
+use mathlib.Core.Path.{_≡_, refl}
+use Prim.Native.Nat.{_+_, _≤_}
 use native.Mathlib.Omega.{arith}
 use lib.IntN.{ℤ, pos, _+ℤ_, _*ℤ_}
-use lib.Signed.{shrZ, mag, _≤ℤ_}
+use lib.Signed.{shrZ, _≤ℤ_}
 use mir.Syntax.{w64, w128}
-use mir.Val.{SFits, toZ, ofZ}
+use mir.Val.{SFits}
 use borrow.Author.Differences.{fits-in, fits-out}
-use Rattle.std.proofs.shelf.Signed.{ints, toZ-ofZ}
 use Rattle.arith.specs.Rounding.{quot-down, quot-up}
 use Rattle.arith.proofs.Quotients as quotients
 use Rattle.arith.proofs.Ring.{lin}

@@ -42,8 +42,8 @@ rounds-neg zero r i = sym (negℤ-negℤ (r i))
 rounds-neg (suc t) r i =
     mean-neg (rounds mean-up t r i) (rounds mean-up t r (suc i))
     ∙ ap₂ (λ x y. negℤ (mean-down x y))
-        (back (rounds mean-up t r i) (rounds mean-down t (neg-row r) i) (rounds-neg t r i))
-        (back (rounds mean-up t r (suc i)) (rounds mean-down t (neg-row r) (suc i)) (rounds-neg t r (suc i)))
+    (back (rounds mean-up t r i) (rounds mean-down t (neg-row r) i) (rounds-neg t r i))
+    (back (rounds mean-up t r (suc i)) (rounds mean-down t (neg-row r) (suc i)) (rounds-neg t r (suc i)))
 
 kept-neg : (n b : ℕ) (r : Row) (k : ℕ) → kept mean-up n b r k ≡ negℤ (kept mean-down n b (neg-row r) k)
 unfolding kept
@@ -56,7 +56,7 @@ deep-neg n zero p r k = sym (negℤ-negℤ (r k))
 deep-neg n (suc d) p r k =
     kept-neg n (p % 2) (deep (kept mean-up n) d (p / 2) r) k
     ∙ ap (λ s. negℤ (kept mean-down n (p % 2) s k))
-        (fun-ext λ i. ap negℤ (deep-neg n d (p / 2) r i) ∙ negℤ-negℤ (deep (kept mean-down n) d (p / 2) (neg-row r) i))
+    (fun-ext λ i. ap negℤ (deep-neg n d (p / 2) r i) ∙ negℤ-negℤ (deep (kept mean-down n) d (p / 2) (neg-row r) i))
 
 -- ---- tables
 
@@ -65,9 +65,9 @@ first-neg n1 n2 n3 a i j k =
     let F : ℕ = factorial n1 * (factorial n2 * factorial n3) in
     let z : ℤ = weighed n1 n2 n3 a (weights n1 i) (weights n2 j) (weights n3 k) in
     back (first quot-up n1 n2 n3 a i j k) (first quot-down n1 n2 n3 (neg-table a) i j k)
-      (sym (first-is quot-up n1 n2 n3 a i j k) ∙ quot-up-neg z F
-       ∙ ap (λ y. negℤ (quot-down y F)) (sym (weighed-neg n1 n2 n3 a (weights n1 i) (weights n2 j) (weights n3 k)))
-       ∙ ap negℤ (first-is quot-down n1 n2 n3 (neg-table a) i j k))
+    (sym (first-is quot-up n1 n2 n3 a i j k) ∙ quot-up-neg z F
+    ∙ ap (λ y. negℤ (quot-down y F)) (sym (weighed-neg n1 n2 n3 a (weights n1 i) (weights n2 j) (weights n3 k)))
+    ∙ ap negℤ (first-is quot-down n1 n2 n3 (neg-table a) i j k))
 
 high-table-is : (n1 n2 n3 : ℕ) (a : Table) (d1 p1 d2 p2 d3 p3 j1 j2 j3 : ℕ) → high-table n1 n2 n3 a d1 p1 d2 p2 d3 p3 j1 j2 j3
     ≡ deep (kept mean-up n3) d3 p3 (λ x3. deep (kept mean-up n2) d2 p2 (λ x2. deep (kept mean-up n1) d1 p1 (λ x1. first quot-up n1 n2 n3 a x1 x2 x3) j1) j2) j3
@@ -85,11 +85,11 @@ high-table-mirror n1 n2 n3 a d1 p1 d2 p2 d3 p3 j1 j2 j3 =
     let U2 : ℕ → ℤ = λ x3. deep (kept mean-up n2) d2 p2 (λ x2. U1 x2 x3) j2 in
     let L2 : ℕ → ℤ = λ x3. deep (kept mean-down n2) d2 p2 (λ x2. L1 x2 x3) j2 in
     let one : (x2 x3 : ℕ) → negℤ (U1 x2 x3) ≡ L1 x2 x3 = λ x2 x3.
-      back (U1 x2 x3) (deep (kept mean-down n1) d1 p1 (λ x1. negℤ (U0 x1 x2 x3)) j1) (deep-neg n1 d1 p1 (λ x1. U0 x1 x2 x3) j1)
-      ∙ ap (λ r. deep (kept mean-down n1) d1 p1 r j1) (fun-ext λ x1. first-neg n1 n2 n3 a x1 x2 x3) in
+    back (U1 x2 x3) (deep (kept mean-down n1) d1 p1 (λ x1. negℤ (U0 x1 x2 x3)) j1) (deep-neg n1 d1 p1 (λ x1. U0 x1 x2 x3) j1)
+    ∙ ap (λ r. deep (kept mean-down n1) d1 p1 r j1) (fun-ext λ x1. first-neg n1 n2 n3 a x1 x2 x3) in
     let two : (x3 : ℕ) → negℤ (U2 x3) ≡ L2 x3 = λ x3.
-      back (U2 x3) (deep (kept mean-down n2) d2 p2 (λ x2. negℤ (U1 x2 x3)) j2) (deep-neg n2 d2 p2 (λ x2. U1 x2 x3) j2)
-      ∙ ap (λ r. deep (kept mean-down n2) d2 p2 r j2) (fun-ext λ x2. one x2 x3) in
+    back (U2 x3) (deep (kept mean-down n2) d2 p2 (λ x2. negℤ (U1 x2 x3)) j2) (deep-neg n2 d2 p2 (λ x2. U1 x2 x3) j2)
+    ∙ ap (λ r. deep (kept mean-down n2) d2 p2 r j2) (fun-ext λ x2. one x2 x3) in
     high-table-is n1 n2 n3 a d1 p1 d2 p2 d3 p3 j1 j2 j3
     ∙ deep-neg n3 d3 p3 U2 j3
     ∙ ap (λ r. negℤ (deep (kept mean-down n3) d3 p3 r j3)) (fun-ext two)
@@ -103,8 +103,8 @@ high-mirror n1 n2 n3 a d1 p1 d2 p2 d3 p3 =
     sym (high-is n1 n2 n3 a d1 p1 d2 p2 d3 p3)
     ∙ greatest-of-least n1 n2 n3 (high-table n1 n2 n3 a d1 p1 d2 p2 d3 p3)
     ∙ ap (λ T. negℤ (least-of n1 n2 n3 T)) (fun-ext λ i. fun-ext λ j. fun-ext λ k.
-        back (high-table n1 n2 n3 a d1 p1 d2 p2 d3 p3 i j k) (low-table n1 n2 n3 (neg-table a) d1 p1 d2 p2 d3 p3 i j k)
-          (high-table-mirror n1 n2 n3 a d1 p1 d2 p2 d3 p3 i j k))
+    back (high-table n1 n2 n3 a d1 p1 d2 p2 d3 p3 i j k) (low-table n1 n2 n3 (neg-table a) d1 p1 d2 p2 d3 p3 i j k)
+    (high-table-mirror n1 n2 n3 a d1 p1 d2 p2 d3 p3 i j k))
     ∙ ap negℤ (low-is n1 n2 n3 (neg-table a) d1 p1 d2 p2 d3 p3)
 
 pub poly-mirror : (n1 n2 n3 : ℕ) (a : Table) (u1 D1 u2 D2 u3 D3 : ℕ)

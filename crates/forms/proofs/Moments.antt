@@ -19,22 +19,23 @@ size m i j k = pos (natAbs (coefficient m i j k))
 
 module _ (m : Mapping) where
   -- a sum over all places is one over all exponents
-  by-exponents : (f : ℕ → ℤ) (g : ℕ → ℕ → ℕ → ℤ)
-    → ((i j k : ℕ) → j < suc (degree m 1) → k < suc (degree m 2) → f (flat (m .degrees) i j k) ≡ g i j k)
-    → sum (terms (m .degrees)) f ≡ sum (suc (degree m 0)) (λ i. sum (suc (degree m 1)) (λ j. sum (suc (degree m 2)) (λ k. g i j k)))
-  by-exponents f g h =
-      let a = degree m 0 in
-      let b = degree m 1 in
-      let c = degree m 2 in
-      let place : (b′ c′ : ℕ) → ℕ → ℕ → ℕ → ℕ = λ b′ c′ i j k. (i * b′ + j) * c′ + k in
-      ap (λ n. sum n f) (sym (mul-assoc (a + 1) (b + 1) (c + 1)))
-      ∙ sum-split₃ (a + 1) (b + 1) (c + 1) f
-      ∙ ap (λ n. sum n (λ i. sum (b + 1) (λ j. sum (c + 1) (λ k. f (flat (m .degrees) i j k))))) (add-one a)
-      ∙ sum-ext (suc a) _ _ (λ i hi.
-          ap (λ n. sum n (λ j. sum (c + 1) (λ k. f (flat (m .degrees) i j k)))) (add-one b)
-          ∙ sum-ext (suc b) _ _ (λ j hj.
-              ap (λ n. sum n (λ k. f (flat (m .degrees) i j k))) (add-one c)
-              ∙ sum-ext (suc c) _ _ (λ k hk. h i j k hj hk)))
+  module _ (f : ℕ → ℤ) (g : ℕ → ℕ → ℕ → ℤ) (same : (i j k : ℕ) → j < suc (degree m 1) → k < suc (degree m 2) → f (flat (m .degrees) i j k) ≡ g i j k) where
+    row : (i j : ℕ) → j < suc (degree m 1) → sum (degree m 2 + 1) (λ k. f (flat (m .degrees) i j k)) ≡ sum (suc (degree m 2)) (λ k. g i j k)
+    row i j h =
+        ap (λ n. sum n (λ k. f (flat (m .degrees) i j k))) (add-one (degree m 2))
+        ∙ sum-ext (suc (degree m 2)) _ _ (λ k l. same i j k h l)
+
+    rows : (i : ℕ) → sum (degree m 1 + 1) (λ j. sum (degree m 2 + 1) (λ k. f (flat (m .degrees) i j k))) ≡ sum (suc (degree m 1)) (λ j. sum (suc (degree m 2)) (λ k. g i j k))
+    rows i =
+        ap (λ n. sum n (λ j. sum (degree m 2 + 1) (λ k. f (flat (m .degrees) i j k)))) (add-one (degree m 1))
+        ∙ sum-ext (suc (degree m 1)) _ _ (λ j h. row i j h)
+
+    by-exponents : sum (terms (m .degrees)) f ≡ sum (suc (degree m 0)) (λ i. sum (suc (degree m 1)) (λ j. sum (suc (degree m 2)) (λ k. g i j k)))
+    by-exponents =
+        ap (λ n. sum n f) (sym (mul-assoc (degree m 0 + 1) (degree m 1 + 1) (degree m 2 + 1)))
+        ∙ sum-split₃ (degree m 0 + 1) (degree m 1 + 1) (degree m 2 + 1) f
+        ∙ ap (λ n. sum n (λ i. sum (degree m 1 + 1) (λ j. sum (degree m 2 + 1) (λ k. f (flat (m .degrees) i j k))))) (add-one (degree m 0))
+        ∙ sum-ext (suc (degree m 0)) _ _ (λ i h. rows i)
 
   exponent-3 : (i j k : ℕ) → k < suc (degree m 2) → flat (m .degrees) i j k % (degree m 2 + 1) ≡ k
   exponent-3 i j k l = mod-mul-add (i * (degree m 1 + 1) + j) (degree m 2 + 1) k (omega arith)
@@ -57,12 +58,12 @@ module _ (m : Mapping) where
   moment-2 =
       by-exponents _ (λ i j k. pos j *ℤ size m i j k) (λ i j k h l. ap (λ n. pos (n * natAbs (coefficient m i j k))) (exponent-2 i j k h l))
       ∙ sum-ext (suc (degree m 0)) _ _ (λ i hi.
-          sum-ext (suc (degree m 1)) _ _ (λ j hj. sum-scale (suc (degree m 2)) (pos j) (λ k. size m i j k)))
+      sum-ext (suc (degree m 1)) _ _ (λ j hj. sum-scale (suc (degree m 2)) (pos j) (λ k. size m i j k)))
 
   pub moment-1 : moment m 0 ≡ sum (suc (degree m 0)) (λ i. pos i *ℤ sum (suc (degree m 1)) (λ j. sum (suc (degree m 2)) (λ k. size m i j k)))
   unfolding moment
   moment-1 =
       by-exponents _ (λ i j k. pos i *ℤ size m i j k) (λ i j k h l. ap (λ n. pos (n * natAbs (coefficient m i j k))) (exponent-1 i j k h l))
       ∙ sum-ext (suc (degree m 0)) _ _ (λ i hi.
-          sum-ext (suc (degree m 1)) _ _ (λ j hj. sum-scale (suc (degree m 2)) (pos i) (λ k. size m i j k))
-          ∙ sum-scale (suc (degree m 1)) (pos i) (λ j. sum (suc (degree m 2)) (λ k. size m i j k)))
+      sum-ext (suc (degree m 1)) _ _ (λ j hj. sum-scale (suc (degree m 2)) (pos i) (λ k. size m i j k))
+      ∙ sum-scale (suc (degree m 1)) (pos i) (λ j. sum (suc (degree m 2)) (λ k. size m i j k)))

@@ -53,8 +53,8 @@ ev-count n j n0 h =
     let c : pos (n ^ 1) *ℤ ev (pos (n - j)) (pos j) n (λ k. pos (choose k 1)) ≡ pos (choose n 1 * (j ^ 1 * n ^ n)) = ev-choose (n - j) j n e n 1 in
     let rows : _≡_ {A = Row} (λ k. pos (choose k 1)) (λ k. pos k) = fun-ext (λ k. ap pos (choose-one k)) in
     mul-same-cancel n n0
-      (ap₂ (λ a r. pos a *ℤ ev (pos (n - j)) (pos j) n r) (sym (pow-one n)) (sym rows) ∙ c
-       ∙ ap₂ (λ a b. pos (a * (b * n ^ n))) (choose-one n) (pow-one j))
+    (ap₂ (λ a r. pos a *ℤ ev (pos (n - j)) (pos j) n r) (sym (pow-one n)) (sym rows) ∙ c
+    ∙ ap₂ (λ a b. pos (a * (b * n ^ n))) (choose-one n) (pow-one j))
 
 ev-pairs : (n j : ℕ) → j ≤ n → pos (n * n) *ℤ ev (pos (n - j)) (pos j) n (λ k. pos (choose k 2)) ≡ pos (choose n 2 * ((j * j) * n ^ n))
 ev-pairs n j h =
@@ -74,7 +74,6 @@ tangent-end A N U δ y h =
     omega (arith, lin)
 
 module _ (n : ℕ) (Y : Row) (concave : (k : ℕ) → suc (suc k) ≤ n → bend Y k ≤ℤ pos 0) where
-
   slopes-fall : (t i j : ℕ) → i + t ≡ j → suc j ≤ n → rise Y j ≤ℤ rise Y i
   slopes-fall zero i j e l = let f : j ≡ i = omega arith in rw f (≤ℤ-refl (rise Y i))
   slopes-fall (suc t) i zero e l = absurd (omega arith)
@@ -108,6 +107,7 @@ module _ (n : ℕ) (Y : Row) (concave : (k : ℕ) → suc (suc k) ≤ n → bend
     where
       last : j ≡ n → ev (pos (n - j)) (pos j) n Y ≤ℤ (pos (n ^ n) *ℤ Y j)
       last e = rw (e, sub-self n) (le-eq (ev-last n n Y))
+
       inner : j < n → ev (pos (n - j)) (pos j) n Y ≤ℤ (pos (n ^ n) *ℤ Y j)
       inner l =
           let e : (n - j) + j ≡ n = omega arith in
@@ -116,14 +116,14 @@ module _ (n : ℕ) (Y : Row) (concave : (k : ℕ) → suc (suc k) ≤ n → bend
           let N : ℤ = pos (n ^ n) in
           let δ : ℤ = rise Y j in
           let lines : ev W U n (λ k. Y k +ℤ (U *ℤ δ)) ≤ℤ ev W U n (λ k. Y j +ℤ (pos k *ℤ δ)) =
-            ev-le (n - j) j n (λ k. Y k +ℤ (U *ℤ δ)) (λ k. Y j +ℤ (pos k *ℤ δ)) (λ k kn. tangent j k l kn) in
+          ev-le (n - j) j n (λ k. Y k +ℤ (U *ℤ δ)) (λ k. Y j +ℤ (pos k *ℤ δ)) (λ k kn. tangent j k l kn) in
           let left : ev W U n (λ k. Y k +ℤ (U *ℤ δ)) ≡ ev W U n Y +ℤ (N *ℤ (U *ℤ δ)) =
-            ev-add W U n Y (λ k. U *ℤ δ) ∙ ap (λ z. ev W U n Y +ℤ z) (ev-constant (n - j) j n n e (U *ℤ δ)) in
+          ev-add W U n Y (λ k. U *ℤ δ) ∙ ap (λ z. ev W U n Y +ℤ z) (ev-constant (n - j) j n n e (U *ℤ δ)) in
           let turned : _≡_ {A = Row} (λ k. pos k *ℤ δ) (λ k. δ *ℤ pos k) = fun-ext (λ k. *ℤ-comm (pos k) δ) in
           let slope : ev W U n (λ k. pos k *ℤ δ) ≡ δ *ℤ (U *ℤ N) =
-            ap (ev W U n) turned ∙ ev-scale W U n δ (λ k. pos k) ∙ ap (λ z. δ *ℤ z) (ev-count n j n0 h) in
+          ap (ev W U n) turned ∙ ev-scale W U n δ (λ k. pos k) ∙ ap (λ z. δ *ℤ z) (ev-count n j n0 h) in
           let right : ev W U n (λ k. Y j +ℤ (pos k *ℤ δ)) ≡ (N *ℤ Y j) +ℤ (δ *ℤ (U *ℤ N)) =
-            ev-add W U n (λ k. Y j) (λ k. pos k *ℤ δ) ∙ ap₂ _+ℤ_ (ev-constant (n - j) j n n e (Y j)) slope in
+          ev-add W U n (λ k. Y j) (λ k. pos k *ℤ δ) ∙ ap₂ _+ℤ_ (ev-constant (n - j) j n n e (Y j)) slope in
           tangent-end (ev W U n Y) N U δ (Y j) (rw (left, right) at lines)
 
 -- ---- a row of bounded bends
@@ -151,12 +151,12 @@ bent-ring : (n N q M A B x c C j : ℤ) → (n *ℤ n) *ℤ B ≡ C *ℤ ((j *�
     → (n *ℤ (pos 2 *ℤ (n *ℤ (q *ℤ A)))) ≤ℤ (n *ℤ ((pos 2 *ℤ (n *ℤ (q *ℤ (N *ℤ x)))) +ℤ (N *ℤ (M *ℤ (j *ℤ (n +ℤ negℤ j))))))
 bent-ring n N q M A B x c C j eB eC ec h =
     let left : (pos 2 *ℤ (n *ℤ n)) *ℤ ((q *ℤ A) +ℤ (negℤ M *ℤ B)) ≡ (n *ℤ (pos 2 *ℤ (n *ℤ (q *ℤ A)))) +ℤ negℤ (N *ℤ (M *ℤ ((j *ℤ j) *ℤ ((n *ℤ n) +ℤ negℤ n)))) =
-      bent-left n q M A B ∙ ap (λ z. (n *ℤ (pos 2 *ℤ (n *ℤ (q *ℤ A)))) +ℤ negℤ z) (ap (λ z. M *ℤ (pos 2 *ℤ z)) eB ∙ bent-middle N M j C ∙ ap (λ z. N *ℤ (M *ℤ ((j *ℤ j) *ℤ z))) eC) in
+    bent-left n q M A B ∙ ap (λ z. (n *ℤ (pos 2 *ℤ (n *ℤ (q *ℤ A)))) +ℤ negℤ z) (ap (λ z. M *ℤ (pos 2 *ℤ z)) eB ∙ bent-middle N M j C ∙ ap (λ z. N *ℤ (M *ℤ ((j *ℤ j) *ℤ z))) eC) in
     let right : (pos 2 *ℤ (n *ℤ n)) *ℤ (N *ℤ ((q *ℤ x) +ℤ (negℤ M *ℤ c))) ≡ (n *ℤ (pos 2 *ℤ (n *ℤ (q *ℤ (N *ℤ x))))) +ℤ negℤ (N *ℤ (M *ℤ ((n *ℤ n) *ℤ ((j *ℤ j) +ℤ negℤ j)))) =
-      bent-right n N q M x c ∙ ap (λ z. (n *ℤ (pos 2 *ℤ (n *ℤ (q *ℤ (N *ℤ x))))) +ℤ negℤ (N *ℤ (M *ℤ ((n *ℤ n) *ℤ z)))) ec in
+    bent-right n N q M x c ∙ ap (λ z. (n *ℤ (pos 2 *ℤ (n *ℤ (q *ℤ (N *ℤ x))))) +ℤ negℤ (N *ℤ (M *ℤ ((n *ℤ n) *ℤ z)))) ec in
     rw (*ℤ-+ℤ n (pos 2 *ℤ (n *ℤ (q *ℤ (N *ℤ x)))) (N *ℤ (M *ℤ (j *ℤ (n +ℤ negℤ j)))))
-      (bent-last (n *ℤ (pos 2 *ℤ (n *ℤ (q *ℤ A)))) (n *ℤ (pos 2 *ℤ (n *ℤ (q *ℤ (N *ℤ x))))) (n *ℤ (N *ℤ (M *ℤ (j *ℤ (n +ℤ negℤ j)))))
-        (N *ℤ (M *ℤ ((j *ℤ j) *ℤ ((n *ℤ n) +ℤ negℤ n)))) (N *ℤ (M *ℤ ((n *ℤ n) *ℤ ((j *ℤ j) +ℤ negℤ j)))) (rw (left, right) at h) (bent-gap n N M j))
+    (bent-last (n *ℤ (pos 2 *ℤ (n *ℤ (q *ℤ A)))) (n *ℤ (pos 2 *ℤ (n *ℤ (q *ℤ (N *ℤ x))))) (n *ℤ (N *ℤ (M *ℤ (j *ℤ (n +ℤ negℤ j)))))
+    (N *ℤ (M *ℤ ((j *ℤ j) *ℤ ((n *ℤ n) +ℤ negℤ n)))) (N *ℤ (M *ℤ ((n *ℤ n) *ℤ ((j *ℤ j) +ℤ negℤ j)))) (rw (left, right) at h) (bent-gap n N M j))
 
 bent-bend : (q M a b c x y z : ℤ) → (((q *ℤ c) +ℤ (M *ℤ z)) +ℤ negℤ ((q *ℤ b) +ℤ (M *ℤ y))) +ℤ negℤ (((q *ℤ b) +ℤ (M *ℤ y)) +ℤ negℤ ((q *ℤ a) +ℤ (M *ℤ x)))
     ≡ (q *ℤ ((c +ℤ negℤ b) +ℤ negℤ (b +ℤ negℤ a))) +ℤ (M *ℤ ((z +ℤ negℤ y) +ℤ negℤ (y +ℤ negℤ x)))
@@ -165,10 +165,10 @@ bent-bend q M a b c x y z = simp terms
 bent-concave : (q M : ℤ) (X : Row) (k : ℕ) → (q *ℤ bend X k) ≤ℤ M → bend (λ i. (q *ℤ X i) +ℤ (negℤ M *ℤ pos (choose i 2))) k ≤ℤ pos 0
 bent-concave q M X k h =
     let e : bend (λ i. (q *ℤ X i) +ℤ (negℤ M *ℤ pos (choose i 2))) k ≡ (q *ℤ bend X k) +ℤ (negℤ M *ℤ bend (λ i. pos (choose i 2)) k) =
-      bent-bend q (negℤ M) (X k) (X (suc k)) (X (suc (suc k))) (pos (choose k 2)) (pos (choose (suc k) 2)) (pos (choose (suc (suc k)) 2)) in
+    bent-bend q (negℤ M) (X k) (X (suc k)) (X (suc (suc k))) (pos (choose k 2)) (pos (choose (suc k) 2)) (pos (choose (suc (suc k)) 2)) in
     let one : bend (λ i. pos (choose i 2)) k ≡ pos 1 = bend-choose 0 k ∙ ap pos (choose-none k) in
     let all : bend (λ i. (q *ℤ X i) +ℤ (negℤ M *ℤ pos (choose i 2))) k ≡ (q *ℤ bend X k) +ℤ negℤ M =
-      e ∙ ap (λ z. (q *ℤ bend X k) +ℤ (negℤ M *ℤ z)) one ∙ ap (λ z. (q *ℤ bend X k) +ℤ z) (mul-one (negℤ M)) in
+    e ∙ ap (λ z. (q *ℤ bend X k) +ℤ (negℤ M *ℤ z)) one ∙ ap (λ z. (q *ℤ bend X k) +ℤ z) (mul-one (negℤ M)) in
     le-trans (le-eq all) (minus-le (q *ℤ bend X k) M h)
   where
     minus-le : (a b : ℤ) → a ≤ℤ b → (a +ℤ negℤ b) ≤ℤ pos 0
@@ -177,7 +177,7 @@ bent-concave q M X k h =
 -- where q times every bend is at most M: q times the evaluation at j/n is at most q times the number at j, plus M · j(n - j)/2n
 pub bent : (n j : ℕ) → 0 < n → j ≤ n → (q M : ℤ) (X : Row) → ((k : ℕ) → suc (suc k) ≤ n → (q *ℤ bend X k) ≤ℤ M)
     → (pos 2 *ℤ (pos n *ℤ (q *ℤ ev (pos (n - j)) (pos j) n X)))
-      ≤ℤ ((pos 2 *ℤ (pos n *ℤ (q *ℤ (pos (n ^ n) *ℤ X j)))) +ℤ (pos (n ^ n) *ℤ (M *ℤ pos (j * (n - j)))))
+    ≤ℤ ((pos 2 *ℤ (pos n *ℤ (q *ℤ (pos (n ^ n) *ℤ X j)))) +ℤ (pos (n ^ n) *ℤ (M *ℤ pos (j * (n - j)))))
 bent n j n0 h q M X bends =
     let W : ℤ = pos (n - j) in
     let U : ℤ = pos j in
@@ -187,11 +187,11 @@ bent n j n0 h q M X bends =
     let concave : (k : ℕ) → suc (suc k) ≤ n → bend Y k ≤ℤ pos 0 = λ k l. bent-concave q M X k (bends k l) in
     let below : ev W U n Y ≤ℤ (N *ℤ Y j) = under n Y concave j n0 h in
     let value : ev W U n Y ≡ (q *ℤ ev W U n X) +ℤ (negℤ M *ℤ ev W U n C) =
-      ev-add W U n (λ k. q *ℤ X k) (λ k. negℤ M *ℤ C k) ∙ ap₂ _+ℤ_ (ev-scale W U n q X) (ev-scale W U n (negℤ M) C) in
+    ev-add W U n (λ k. q *ℤ X k) (λ k. negℤ M *ℤ C k) ∙ ap₂ _+ℤ_ (ev-scale W U n q X) (ev-scale W U n (negℤ M) C) in
     let twice-n : pos 2 *ℤ pos (choose n 2) ≡ (pos n *ℤ pos n) +ℤ negℤ (pos n) = omega (arith, lin, choose-two n) in
     let twice-j : pos 2 *ℤ pos (choose j 2) ≡ (U *ℤ U) +ℤ negℤ U = omega (arith, lin, choose-two j) in
     let gap : pos (n - j) ≡ pos n +ℤ negℤ (pos j) = omega (arith, lin) in
     let rest : pos (j * (n - j)) ≡ U *ℤ (pos n +ℤ negℤ U) = ap (λ z. pos j *ℤ z) gap in
     rw rest (mul-le-cancel n n0
-      (bent-ring (pos n) N q M (ev W U n X) (ev W U n C) (X j) (C j) (pos (choose n 2)) U (ev-pairs n j h) twice-n twice-j
-        (mul-le (2 * (n * n)) (rw value at below))))
+    (bent-ring (pos n) N q M (ev W U n X) (ev W U n C) (X j) (C j) (pos (choose n 2)) U (ev-pairs n j h) twice-n twice-j
+    (mul-le (2 * (n * n)) (rw value at below))))

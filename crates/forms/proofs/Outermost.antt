@@ -20,7 +20,8 @@ use Rattle.mapping.proofs.Exponents.{flat-exponents}
 use Rattle.forms.specs.declared.side.Side.{Side}
 use Rattle.forms.specs.declared.side.Side.the-variants.{Low, High}
 use Rattle.forms.specs.Arrays.{numbers, grid, Fills}
-use Rattle.forms.specs.Bernstein.{bernstein, end, on-box, on-cell}
+use Rattle.forms.specs.Bernstein.{bernstein}
+use Rattle.forms.specs.Stages.{end, on-box, on-cell}
 use Rattle.forms.specs.Halving.{Row}
 use Rattle.forms.specs.Polynomial.{Table}
 use Rattle.forms.specs.Sides.{mean, outer, extreme}
@@ -78,7 +79,7 @@ module _ (ns : List ℕ) where
     j-le = exponent-second ns t l;
     k-le = exponent-third ns t l;
     is = e ∙ ap r (sym (flat-exponents ns t))
-      ∙ h (exponent ns 0 t) (exponent ns 1 t) (exponent ns 2 t) (exponent-first ns t l) (exponent-second ns t l) (exponent-third ns t l);
+        ∙ h (exponent ns 0 t) (exponent ns 1 t) (exponent ns 2 t) (exponent-first ns t l) (exponent-second ns t l) (exponent-third ns t l);
   }
 
   least-flat : (r : Row) (T : Table) → 0 < terms ns → Same r T → least (terms ns - 1) r ≡ least-of (getD ns 0 0) (getD ns 1 0) (getD ns 2 0) T
@@ -86,9 +87,9 @@ module _ (ns : List ℕ) where
       let s = least-at (terms ns - 1) r in
       let below : s .0 < terms ns = omega (arith, s .1) in
       least-of-only (getD ns 0 0) (getD ns 1 0) (getD ns 2 0) T (least (terms ns - 1) r)
-        (λ i j k il jl kl.
-          le-trans (least-le (terms ns - 1) r (flat ns i j k) (omega (arith, flat-below ns i j k il jl kl))) (le-eq (h i j k il jl kl)))
-        (reached r T h (least (terms ns - 1) r) (s .0) below (s .2))
+      (λ i j k il jl kl.
+      le-trans (least-le (terms ns - 1) r (flat ns i j k) (omega (arith, flat-below ns i j k il jl kl))) (le-eq (h i j k il jl kl)))
+      (reached r T h (least (terms ns - 1) r) (s .0) below (s .2))
 
   greatest-flat : (r : Row) (T : Table) → 0 < terms ns → Same r T → greatest (terms ns - 1) r ≡ greatest-of (getD ns 0 0) (getD ns 1 0) (getD ns 2 0) T
   greatest-flat r T some h =
@@ -113,7 +114,8 @@ end-is s m c xs ys some first all = by-side s first all
     same : (s : Side) → Fills (m .degrees) xs (on-box s m) → Alike (degree m 0) (degree m 1) (degree m 2) (on-cell s m c (grid (m .degrees) xs)) (on-cell s m c (on-box s m))
     same s first =
         halved-reads (mean s) (degree m 0) (degree m 1) (degree m 2) (depth (c .shape) 0) (place (c .shape) 0) (depth (c .shape) 1) (place (c .shape) 1)
-          (depth (c .shape) 2) (place (c .shape) 2) (grid (m .degrees) xs) (on-box s m) first
+        (depth (c .shape) 2) (place (c .shape) 2) (grid (m .degrees) xs) (on-box s m) first
+
     by-side : (s : Side) → Fills (m .degrees) xs (on-box s m) → Fills (m .degrees) ys (on-cell s m c (grid (m .degrees) xs))
         → extreme s (terms (m .degrees) - 1) (numbers ys) ≡ end s (bernstein m c)
     by-side Low first all =

@@ -1,13 +1,13 @@
 -- Coefficients by their flat place: sums over all of them, and the exponents at a place.
 --     exponent ns v t    the exponent of input v, counted from 0, at the flat place t
 -- Assumes nothing.
-use mathlib.Core.Path.{_≡_, refl, sym, ap, ap₂, _∙_}
+use mathlib.Core.Path.{_≡_, sym, ap, ap₂, _∙_}
 use mathlib.Core.List.{List}
 use Prim.Native.Nat.{ℕ, zero, suc, _+_, _*_, _/_, _%_, _≤_, _<_}
 use native.Mathlib.Nat.{mul-assoc, mod-lt}
 use native.Mathlib.Numerals.{add-one}
 use native.Mathlib.Omega.{arith}
-use lib.IntN.{ℤ, pos, _*ℤ_}
+use lib.IntN.{ℤ, _*ℤ_}
 use lib.ListN.{getD}
 use Rattle.std.proofs.shelf.Bits.{div-mul-add, mod-mul-add, div-below}
 use Rattle.arith.specs.Sums.{sum}
@@ -33,14 +33,14 @@ by-place n1 n2 n3 A B C a x y z eA eB eC =
 -- h is what the sum takes of each coefficient: itself, or its size
 pub weighed-places : (h : ℤ → ℤ) (ns : List ℕ) (xs : List ℤ) (x y z : Row)
     → sum (terms ns) (λ t. h (numbers xs t) *ℤ (x (exponent ns 0 t) *ℤ (y (exponent ns 1 t) *ℤ z (exponent ns 2 t))))
-      ≡ weighed (getD ns 0 0) (getD ns 1 0) (getD ns 2 0) (λ i j k. h (grid ns xs i j k)) x y z
+    ≡ weighed (getD ns 0 0) (getD ns 1 0) (getD ns 2 0) (λ i j k. h (grid ns xs i j k)) x y z
 weighed-places h ns xs x y z =
     sum-ext (terms ns)
-      (λ t. h (numbers xs t) *ℤ (x (exponent ns 0 t) *ℤ (y (exponent ns 1 t) *ℤ z (exponent ns 2 t))))
-      (λ t. h (grid ns xs (exponent ns 0 t) (exponent ns 1 t) (exponent ns 2 t)) *ℤ (x (exponent ns 0 t) *ℤ (y (exponent ns 1 t) *ℤ z (exponent ns 2 t))))
-      (λ t l. ap (λ s. h (numbers xs s) *ℤ (x (exponent ns 0 t) *ℤ (y (exponent ns 1 t) *ℤ z (exponent ns 2 t)))) (sym (flat-exponents ns t)))
+    (λ t. h (numbers xs t) *ℤ (x (exponent ns 0 t) *ℤ (y (exponent ns 1 t) *ℤ z (exponent ns 2 t))))
+    (λ t. h (grid ns xs (exponent ns 0 t) (exponent ns 1 t) (exponent ns 2 t)) *ℤ (x (exponent ns 0 t) *ℤ (y (exponent ns 1 t) *ℤ z (exponent ns 2 t))))
+    (λ t l. ap (λ s. h (numbers xs s) *ℤ (x (exponent ns 0 t) *ℤ (y (exponent ns 1 t) *ℤ z (exponent ns 2 t)))) (sym (flat-exponents ns t)))
     ∙ by-place (getD ns 0 0) (getD ns 1 0) (getD ns 2 0) (getD ns 0 0 + 1) (getD ns 1 0 + 1) (getD ns 2 0 + 1) (λ i j k. h (grid ns xs i j k)) x y z
-        (add-one (getD ns 0 0)) (add-one (getD ns 1 0)) (add-one (getD ns 2 0))
+    (add-one (getD ns 0 0)) (add-one (getD ns 1 0)) (add-one (getD ns 2 0))
 
 -- ---- exponents
 

@@ -32,7 +32,8 @@ part-times c d p u D i =
     let a : (c * u) * 2 ^ d ≡ c * (u * 2 ^ d) = simp nats in
     record {
       from = rw (part-nats p c D, a) (mul-le-mul-left c (i .from));
-      to = rw (part-nats (suc p) c D, a) (mul-le-mul-left c (i .to)) }
+      to = rw (part-nats (suc p) c D, a) (mul-le-mul-left c (i .to));
+    }
 
 near-part : (d p s j : ℕ) → j ≤ s → InPart d p (p * s + j) (2 ^ d * s)
 near-part d p s j h =
@@ -40,13 +41,14 @@ near-part d p s j h =
     let b : suc p * (2 ^ d * s) ≡ (suc p * s) * 2 ^ d = simp nats in
     record {
       from = rw a (mul-le-mul-right (2 ^ d) (le-add-right (p * s) j));
-      to = rw b (mul-le-mul-right (2 ^ d) (omega (arith, suc-mul p s))) }
+      to = rw b (mul-le-mul-right (2 ^ d) (omega (arith, suc-mul p s)));
+    }
 
 -- ---- the value over another denominator
 
 pub poly-times : (n1 n2 n3 : ℕ) (a : Table) (c1 u1 D1 c2 u2 D2 c3 u3 D3 : ℕ)
     → poly n1 n2 n3 a (c1 * u1) (c1 * D1) (c2 * u2) (c2 * D2) (c3 * u3) (c3 * D3)
-      ≡ pos (c1 ^ n1 * (c2 ^ n2 * c3 ^ n3)) *ℤ poly n1 n2 n3 a u1 D1 u2 D2 u3 D3
+    ≡ pos (c1 ^ n1 * (c2 ^ n2 * c3 ^ n3)) *ℤ poly n1 n2 n3 a u1 D1 u2 D2 u3 D3
 poly-times n1 n2 n3 a c1 u1 D1 c2 u2 D2 c3 u3 D3 =
     let S1 : Row = λ i. pos (share n1 i u1 D1) in
     let S2 : Row = λ i. pos (share n2 i u2 D2) in
@@ -83,28 +85,33 @@ one-denominator n1 n2 n3 a d1 p1 d2 p2 d3 p3 u1 D1 u2 D2 u3 D3 z o1 o2 o3 l1 l2 
     let C : ℕ = c1 ^ n1 * (c2 ^ n2 * c3 ^ n3) in
     let P : ℕ = D1 ^ n1 * (D2 ^ n2 * D3 ^ n3) in
     let power : C * P ≡ E ^ (n1 + n2 + n3) =
-      powers-nats (c1 ^ n1) (c2 ^ n2) (c3 ^ n3) (D1 ^ n1) (D2 ^ n2) (D3 ^ n3)
-      ∙ ap₂ (λ x y. x * y)
-          (ap₂ (λ x y. x * y) (sym (mul-pow c1 D1 n1) ∙ ap (λ x. x ^ n1) e1) (sym (mul-pow c2 D2 n2) ∙ ap (λ x. x ^ n2) e2) ∙ sym (pow-add E n1 n2))
-          (sym (mul-pow c3 D3 n3) ∙ ap (λ x. x ^ n3) e3)
-      ∙ sym (pow-add E (n1 + n2) n3) in
+    powers-nats (c1 ^ n1) (c2 ^ n2) (c3 ^ n3) (D1 ^ n1) (D2 ^ n2) (D3 ^ n3)
+    ∙ ap₂ (λ x y. x * y)
+    (ap₂ (λ x y. x * y) (sym (mul-pow c1 D1 n1) ∙ ap (λ x. x ^ n1) e1) (sym (mul-pow c2 D2 n2) ∙ ap (λ x. x ^ n2) e2) ∙ sym (pow-add E n1 n2))
+    (sym (mul-pow c3 D3 n3) ∙ ap (λ x. x ^ n3) e3)
+    ∙ sym (pow-add E (n1 + n2) n3) in
     let value : poly n1 n2 n3 a (c1 * u1) E (c2 * u2) E (c3 * u3) E ≡ pos C *ℤ poly n1 n2 n3 a u1 D1 u2 D2 u3 D3 =
-      ap (λ x. poly n1 n2 n3 a (c1 * u1) x (c2 * u2) E (c3 * u3) E) (sym e1)
-      ∙ ap (λ x. poly n1 n2 n3 a (c1 * u1) (c1 * D1) (c2 * u2) x (c3 * u3) E) (sym e2)
-      ∙ ap (λ x. poly n1 n2 n3 a (c1 * u1) (c1 * D1) (c2 * u2) (c2 * D2) (c3 * u3) x) (sym e3)
-      ∙ poly-times n1 n2 n3 a c1 u1 D1 c2 u2 D2 c3 u3 D3 in
+    ap (λ x. poly n1 n2 n3 a (c1 * u1) x (c2 * u2) E (c3 * u3) E) (sym e1)
+    ∙ ap (λ x. poly n1 n2 n3 a (c1 * u1) (c1 * D1) (c2 * u2) x (c3 * u3) E) (sym e2)
+    ∙ ap (λ x. poly n1 n2 n3 a (c1 * u1) (c1 * D1) (c2 * u2) (c2 * D2) (c3 * u3) x) (sym e3)
+    ∙ poly-times n1 n2 n3 a c1 u1 D1 c2 u2 D2 c3 u3 D3 in
     let bound : pos C *ℤ (pos P *ℤ z) ≡ z *ℤ pos (E ^ (n1 + n2 + n3)) =
-      sym (*ℤ-assoc (pos C) (pos P) z) ∙ ap (λ x. pos x *ℤ z) power ∙ *ℤ-comm (pos (E ^ (n1 + n2 + n3))) z in
-    (record {
-      u1 = c1 * u1; u2 = c2 * u2; u3 = c3 * u3; D = E;
-      D-pos = mul-pos o1 (mul-pos o2 o3);
-      u1-le = le-by e1 (mul-le-mul-left c1 l1);
-      u2-le = le-by e2 (mul-le-mul-left c2 l2);
-      u3-le = le-by e3 (mul-le-mul-left c3 l3);
-      part1 = subst (InPart d1 p1 (c1 * u1)) e1 (part-times c1 d1 p1 u1 D1 i1);
-      part2 = subst (InPart d2 p2 (c2 * u2)) e2 (part-times c2 d2 p2 u2 D2 i2);
-      part3 = subst (InPart d3 p3 (c3 * u3)) e3 (part-times c3 d3 p3 u3 D3 i3) },
-     rw (value, ← bound) (mul-le C h))
+    sym (*ℤ-assoc (pos C) (pos P) z) ∙ ap (λ x. pos x *ℤ z) power ∙ *ℤ-comm (pos (E ^ (n1 + n2 + n3))) z in (
+      record {
+        u1 = c1 * u1;
+        u2 = c2 * u2;
+        u3 = c3 * u3;
+        D = E;
+        D-pos = mul-pos o1 (mul-pos o2 o3);
+        u1-le = le-by e1 (mul-le-mul-left c1 l1);
+        u2-le = le-by e2 (mul-le-mul-left c2 l2);
+        u3-le = le-by e3 (mul-le-mul-left c3 l3);
+        part1 = subst (InPart d1 p1 (c1 * u1)) e1 (part-times c1 d1 p1 u1 D1 i1);
+        part2 = subst (InPart d2 p2 (c2 * u2)) e2 (part-times c2 d2 p2 u2 D2 i2);
+        part3 = subst (InPart d3 p3 (c3 * u3)) e3 (part-times c3 d3 p3 u3 D3 i3);
+      },
+      rw (value, ← bound) (mul-le C h),
+    )
   where
     le-by : {x y z : ℕ} → y ≡ z → x ≤ y → x ≤ z
     le-by {x} {y} {z} e l = omega arith
@@ -117,14 +124,14 @@ double-le : (F G W P T : ℕ) (S X l Q : ℤ) (e : ℕ) → G * W ≡ F * P → 
 double-le F G W P T S X l Q e gw t h near =
     let m : ℤ = (pos 2 *ℤ l) +ℤ pos e in
     let a : (pos 2 *ℤ (pos F *ℤ S)) ≤ℤ ((pos 2 *ℤ (pos G *ℤ X)) +ℤ (pos 2 *ℤ (pos T *ℤ Q))) =
-      le-trans (mul-le 2 h) (le-eq (*ℤ-+ℤ (pos 2) (pos G *ℤ X) (pos T *ℤ Q))) in
+    le-trans (mul-le 2 h) (le-eq (*ℤ-+ℤ (pos 2) (pos G *ℤ X) (pos T *ℤ Q))) in
     let b : (pos 2 *ℤ (pos G *ℤ X)) ≤ℤ (pos G *ℤ (pos W *ℤ m)) = rw (*ℤ-left-comm (pos 2) (pos G) X) (mul-le G near) in
     let b-is : pos G *ℤ (pos W *ℤ m) ≡ pos F *ℤ (pos P *ℤ m) =
-      sym (*ℤ-assoc (pos G) (pos W) m) ∙ ap (λ z. pos z *ℤ m) gw ∙ *ℤ-assoc (pos F) (pos P) m in
+    sym (*ℤ-assoc (pos G) (pos W) m) ∙ ap (λ z. pos z *ℤ m) gw ∙ *ℤ-assoc (pos F) (pos P) m in
     let q-is : pos 2 *ℤ (pos T *ℤ Q) ≡ pos F *ℤ (pos P *ℤ (pos 2 *ℤ Q)) =
-      ap (λ z. pos 2 *ℤ (pos z *ℤ Q)) t ∙ *ℤ-left-comm (pos 2) (pos (F * P)) Q ∙ *ℤ-assoc (pos F) (pos P) (pos 2 *ℤ Q) in
+    ap (λ z. pos 2 *ℤ (pos z *ℤ Q)) t ∙ *ℤ-left-comm (pos 2) (pos (F * P)) Q ∙ *ℤ-assoc (pos F) (pos P) (pos 2 *ℤ Q) in
     let r-is : pos F *ℤ (pos P *ℤ (m +ℤ (pos 2 *ℤ Q))) ≡ (pos F *ℤ (pos P *ℤ m)) +ℤ (pos F *ℤ (pos P *ℤ (pos 2 *ℤ Q))) =
-      ap (λ z. pos F *ℤ z) (*ℤ-+ℤ (pos P) m (pos 2 *ℤ Q)) ∙ *ℤ-+ℤ (pos F) (pos P *ℤ m) (pos P *ℤ (pos 2 *ℤ Q)) in
+    ap (λ z. pos F *ℤ z) (*ℤ-+ℤ (pos P) m (pos 2 *ℤ Q)) ∙ *ℤ-+ℤ (pos F) (pos P *ℤ m) (pos P *ℤ (pos 2 *ℤ Q)) in
     rw (*ℤ-left-comm (pos F) (pos 2) S, r-is, ← b-is, ← q-is) (le-trans a (add-le b (≤ℤ-refl (pos 2 *ℤ (pos T *ℤ Q)))))
 
 within : (P e : ℕ) (S l Q s : ℤ) → (pos e +ℤ (pos 2 *ℤ Q)) ≤ℤ (pos 2 *ℤ s)
@@ -151,7 +158,6 @@ grain-power n d = ap (λ z. z * grain n ^ n) (sym (pow-pow 2 d n)) ∙ sym (mul-
 module _ (n1 n2 n3 : ℕ) (a : Table) (d1 p1 d2 p2 d3 p3 : ℕ) (h1 : p1 < 2 ^ d1) (h2 : p2 < 2 ^ d2) (h3 : p3 < 2 ^ d3)
     (j1 j2 j3 : ℕ) (k1 : j1 ≤ n1) (k2 : j2 ≤ n2) (k3 : j3 ≤ n3) (l : ℤ)
     (near : Near (((2 + n1 * d1) + n2 * d2) + n3 * d3) (unit n1 n2 n3 d1 d2 d3) l (exact n1 n2 n3 a d1 p1 d2 p2 d3 p3 j1 j2 j3)) where
-
   powers : ℕ
   powers = (2 ^ d1 * grain n1) ^ n1 * ((2 ^ d2 * grain n2) ^ n2 * (2 ^ d3 * grain n3) ^ n3)
 
@@ -163,22 +169,22 @@ module _ (n1 n2 n3 : ℕ) (a : Table) (d1 p1 d2 p2 d3 p3 : ℕ) (h1 : p1 < 2 ^ d
 
   point-le : (pos (factorial n1 * (factorial n2 * factorial n3)) *ℤ value)
       ≤ℤ ((pos (grain n1 ^ n1 * (grain n2 ^ n2 * grain n3 ^ n3)) *ℤ exact n1 n2 n3 a d1 p1 d2 p2 d3 p3 j1 j2 j3)
-          +ℤ (pos (point-scale n1 d1 * (point-scale n2 d2 * point-scale n3 d3)) *ℤ losses))
+      +ℤ (pos (point-scale n1 d1 * (point-scale n2 d2 * point-scale n3 d3)) *ℤ losses))
   unfolding value losses
   point-le =
       let x-is : weighed n1 n2 n3 a (point-row n1 d1 p1 j1) (point-row n2 d2 p2 j2) (point-row n3 d3 p3 j3) ≡ pos (factorial n1 * (factorial n2 * factorial n3)) *ℤ value =
-        weighed-scale n1 n2 n3 a (pos (factorial n1)) (pos (factorial n2)) (pos (factorial n3))
-          (λ i. pos (share n1 i (p1 * grain n1 + j1) (2 ^ d1 * grain n1))) (λ i. pos (share n2 i (p2 * grain n2 + j2) (2 ^ d2 * grain n2)))
-          (λ i. pos (share n3 i (p3 * grain n3 + j3) (2 ^ d3 * grain n3)))
-        ∙ ap (λ z. pos (factorial n1 * (factorial n2 * factorial n3)) *ℤ z)
-            (sym (poly-weighed n1 n2 n3 a (p1 * grain n1 + j1) (2 ^ d1 * grain n1) (p2 * grain n2 + j2) (2 ^ d2 * grain n2) (p3 * grain n3 + j3) (2 ^ d3 * grain n3))) in
+      weighed-scale n1 n2 n3 a (pos (factorial n1)) (pos (factorial n2)) (pos (factorial n3))
+      (λ i. pos (share n1 i (p1 * grain n1 + j1) (2 ^ d1 * grain n1))) (λ i. pos (share n2 i (p2 * grain n2 + j2) (2 ^ d2 * grain n2)))
+      (λ i. pos (share n3 i (p3 * grain n3 + j3) (2 ^ d3 * grain n3)))
+      ∙ ap (λ z. pos (factorial n1 * (factorial n2 * factorial n3)) *ℤ z)
+      (sym (poly-weighed n1 n2 n3 a (p1 * grain n1 + j1) (2 ^ d1 * grain n1) (p2 * grain n2 + j2) (2 ^ d2 * grain n2) (p3 * grain n3 + j3) (2 ^ d3 * grain n3))) in
       let y-is : weighed n1 n2 n3 a (place-row n1 d1 p1 j1) (place-row n2 d2 p2 j2) (place-row n3 d3 p3 j3)
-          ≡ pos (grain n1 ^ n1 * (grain n2 ^ n2 * grain n3 ^ n3)) *ℤ exact n1 n2 n3 a d1 p1 d2 p2 d3 p3 j1 j2 j3 =
-        weighed-scale n1 n2 n3 a (pos (grain n1 ^ n1)) (pos (grain n2 ^ n2)) (pos (grain n3 ^ n3)) (piece n1 d1 p1 j1) (piece n2 d2 p2 j2) (piece n3 d3 p3 j3) in
+      ≡ pos (grain n1 ^ n1 * (grain n2 ^ n2 * grain n3 ^ n3)) *ℤ exact n1 n2 n3 a d1 p1 d2 p2 d3 p3 j1 j2 j3 =
+      weighed-scale n1 n2 n3 a (pos (grain n1 ^ n1)) (pos (grain n2 ^ n2)) (pos (grain n3 ^ n3)) (piece n1 d1 p1 j1) (piece n2 d2 p2 j2) (piece n3 d3 p3 j3) in
       rw (x-is, y-is) at
-        (close-all n1 n2 n3 a d1 d2 d3 (point-scale n1 d1) (point-scale n2 d2) (point-scale n3 d3)
-          (point-row n1 d1 p1 j1) (place-row n1 d1 p1 j1) (point-row n2 d2 p2 j2) (place-row n2 d2 p2 j2) (point-row n3 d3 p3 j3) (place-row n3 d3 p3 j3)
-          (place-close n1 d1 p1 j1 h1 k1) (place-close n2 d2 p2 j2 h2 k2) (place-close n3 d3 p3 j3 h3 k3))
+      (close-all n1 n2 n3 a d1 d2 d3 (point-scale n1 d1) (point-scale n2 d2) (point-scale n3 d3)
+      (point-row n1 d1 p1 j1) (place-row n1 d1 p1 j1) (point-row n2 d2 p2 j2) (place-row n2 d2 p2 j2) (point-row n3 d3 p3 j3) (place-row n3 d3 p3 j3)
+      (place-close n1 d1 p1 j1 h1 k1) (place-close n2 d2 p2 j2 h2 k2) (place-close n3 d3 p3 j3 h3 k3))
 
   unit-is : (grain n1 ^ n1 * (grain n2 ^ n2 * grain n3 ^ n3)) * unit n1 n2 n3 d1 d2 d3 ≡ (factorial n1 * (factorial n2 * factorial n3)) * powers
   unfolding unit powers
@@ -194,10 +200,10 @@ module _ (n1 n2 n3 : ℕ) (a : Table) (d1 p1 d2 p2 d3 p3 : ℕ) (h1 : p1 < 2 ^ d
   unfolding losses
   value-le =
       within powers (((2 + n1 * d1) + n2 * d2) + n3 * d3) value l losses (slack n1 n2 n3 a d1 d2 d3) (slack-is n1 n2 n3 a d1 d2 d3)
-        (mul-le-cancel (factorial n1 * (factorial n2 * factorial n3)) (mul-pos (factorial-pos n1) (mul-pos (factorial-pos n2) (factorial-pos n3)))
-          (double-le (factorial n1 * (factorial n2 * factorial n3)) (grain n1 ^ n1 * (grain n2 ^ n2 * grain n3 ^ n3)) (unit n1 n2 n3 d1 d2 d3) powers
-            (point-scale n1 d1 * (point-scale n2 d2 * point-scale n3 d3)) value (exact n1 n2 n3 a d1 p1 d2 p2 d3 p3 j1 j2 j3) l losses (((2 + n1 * d1) + n2 * d2) + n3 * d3)
-            unit-is scale-is point-le (near .above)))
+      (mul-le-cancel (factorial n1 * (factorial n2 * factorial n3)) (mul-pos (factorial-pos n1) (mul-pos (factorial-pos n2) (factorial-pos n3)))
+      (double-le (factorial n1 * (factorial n2 * factorial n3)) (grain n1 ^ n1 * (grain n2 ^ n2 * grain n3 ^ n3)) (unit n1 n2 n3 d1 d2 d3) powers
+      (point-scale n1 d1 * (point-scale n2 d2 * point-scale n3 d3)) value (exact n1 n2 n3 a d1 p1 d2 p2 d3 p3 j1 j2 j3) l losses (((2 + n1 * d1) + n2 * d2) + n3 * d3)
+      unit-is scale-is point-le (near .above)))
 
   -- over one denominator
   pub near-point : (c : CellPoint d1 p1 d2 p2 d3 p3)
@@ -205,15 +211,17 @@ module _ (n1 n2 n3 : ℕ) (a : Table) (d1 p1 d2 p2 d3 p3 : ℕ) (h1 : p1 < 2 ^ d
   unfolding value powers
   near-point =
       one-denominator n1 n2 n3 a d1 p1 d2 p2 d3 p3 (p1 * grain n1 + j1) (2 ^ d1 * grain n1) (p2 * grain n2 + j2) (2 ^ d2 * grain n2) (p3 * grain n3 + j3) (2 ^ d3 * grain n3)
-        (l +ℤ slack n1 n2 n3 a d1 d2 d3)
-        (mul-pos (pow-pos d1) (grain-pos n1)) (mul-pos (pow-pos d2) (grain-pos n2)) (mul-pos (pow-pos d3) (grain-pos n3))
-        (room d1 p1 (grain n1) j1 h1 g1) (room d2 p2 (grain n2) j2 h2 g2) (room d3 p3 (grain n3) j3 h3 g3)
-        (near-part d1 p1 (grain n1) j1 g1) (near-part d2 p2 (grain n2) j2 g2) (near-part d3 p3 (grain n3) j3 g3)
-        value-le
+      (l +ℤ slack n1 n2 n3 a d1 d2 d3)
+      (mul-pos (pow-pos d1) (grain-pos n1)) (mul-pos (pow-pos d2) (grain-pos n2)) (mul-pos (pow-pos d3) (grain-pos n3))
+      (room d1 p1 (grain n1) j1 h1 g1) (room d2 p2 (grain n2) j2 h2 g2) (room d3 p3 (grain n3) j3 h3 g3)
+      (near-part d1 p1 (grain n1) j1 g1) (near-part d2 p2 (grain n2) j2 g2) (near-part d3 p3 (grain n3) j3 g3)
+      value-le
     where
       g1 : j1 ≤ grain n1
       g1 = omega (arith, grain-le n1)
+
       g2 : j2 ≤ grain n2
       g2 = omega (arith, grain-le n2)
+
       g3 : j3 ≤ grain n3
       g3 = omega (arith, grain-le n3)

@@ -39,7 +39,7 @@ piece-value n d p w u s h e s0 i l =
     let v : ℕ = 2 ^ d * s - (p * s + u) in
     let all : v + (p * s + u) ≡ 2 ^ d * s = omega arith in
     ev-deep n d p (pos w) (pos u) (pos v) (pos (p * s + u)) (λ k. pos (weight n k i)) h
-      (ap (λ z. pos (p * z + u)) (sym e)) (ap pos all ∙ ap (λ z. pos (2 ^ d * z)) (sym e))
+    (ap (λ z. pos (p * z + u)) (sym e)) (ap pos all ∙ ap (λ z. pos (2 ^ d * z)) (sym e))
     ∙ ev-weight v (p * s + u) (2 ^ d * s) all (mul-pos (pow-pos d) s0) n i l
 
 share-ring : (a b x y N : ℕ) → a * b ≡ N → (a * x) * (b * y) ≡ N * (x * y)
@@ -50,7 +50,7 @@ pub share-times : (n i c u D : ℕ) → i ≤ n → share n i (c * u) (c * D) �
 share-times n i c u D h =
     let e : i + (n - i) ≡ n = omega arith in
     rw (mul-pow c u i, mul-pow c D (n - i))
-      (share-ring (c ^ i) (c ^ (n - i)) (u ^ i) (D ^ (n - i)) (c ^ n) (sym (pow-add c i (n - i)) ∙ ap (λ x. c ^ x) e))
+    (share-ring (c ^ i) (c ^ (n - i)) (u ^ i) (D ^ (n - i)) (c ^ n) (sym (pow-add c i (n - i)) ∙ ap (λ x. c ^ x) e))
 
 -- a point of the part, by its distances from the part's ends
 pub part-value : (n d p u D : ℕ) → p < 2 ^ d → 0 < D → InPart d p u D → (i : ℕ) → i ≤ n
@@ -78,13 +78,13 @@ part-least n d p u D h D0 I H L k C bound =
     let c : ℕ = factorial n * 2 ^ (n * d) in
     let S : Row = λ i. pos (share n i u D) in
     let below : ev (pos a) (pos b) n (λ j. C) ≤ℤ ev (pos a) (pos b) n (λ j. pos k *ℤ H (piece n d p j)) =
-      ev-le a b n (λ j. C) (λ j. pos k *ℤ H (piece n d p j)) bound in
+    ev-le a b n (λ j. C) (λ j. pos k *ℤ H (piece n d p j)) bound in
     let value : ev (pos a) (pos b) n (λ j. H (piece n d p j)) ≡ pos c *ℤ H S =
-      ev-swap n H L (pos a) (pos b) n (λ j. piece n d p j)
-      ∙ L .reads (λ i. ev (pos a) (pos b) n (λ j. piece n d p j i)) (λ i. pos c *ℤ S i) (part-value n d p u D h D0 I)
-      ∙ L .scale (pos c) S in
+    ev-swap n H L (pos a) (pos b) n (λ j. piece n d p j)
+    ∙ L .reads (λ i. ev (pos a) (pos b) n (λ j. piece n d p j i)) (λ i. pos c *ℤ S i) (part-value n d p u D h D0 I)
+    ∙ L .scale (pos c) S in
     let right : ev (pos a) (pos b) n (λ j. pos k *ℤ H (piece n d p j)) ≡ pos (k * c) *ℤ H S =
-      ev-scale (pos a) (pos b) n (pos k) (λ j. H (piece n d p j)) ∙ ap (λ z. pos k *ℤ z) value ∙ sym (*ℤ-assoc (pos k) (pos c) (H S)) in
+    ev-scale (pos a) (pos b) n (pos k) (λ j. H (piece n d p j)) ∙ ap (λ z. pos k *ℤ z) value ∙ sym (*ℤ-assoc (pos k) (pos c) (H S)) in
     rw (ev-constant a b D n whole C, right) at below
 
 -- ---- the bends of the weights
@@ -127,9 +127,9 @@ bend-top m i k h l =
     let short : suc (suc m) - suc (suc i) ≡ m - i = omega arith in
     let most : choose k i * rest n (suc (suc i)) ≤ choose m i * rest n (suc (suc i)) = mul-le-mul-right (rest n (suc (suc i))) (choose-mono k m i h) in
     let e : (n * suc m) * (choose m i * rest n (suc (suc i))) ≡ factorial n * (suc (suc i) * suc i) =
-      rw short (top-nats m i (choose m i) (factorial i) (factorial (m - i)) (factorial m) (choose-factorials m i (m - i) (omega arith))) in
+    rw short (top-nats m i (choose m i) (factorial i) (factorial (m - i)) (factorial m) (choose-factorials m i (m - i) (omega arith))) in
     let fin : (n * suc m) * (choose k i * rest n (suc (suc i))) ≤ factorial n * (suc (suc i) * suc i) =
-      NatL.le-trans (mul-le-mul-left (n * suc m) most) (le-of-eq e) in
+    NatL.le-trans (mul-le-mul-left (n * suc m) most) (le-of-eq e) in
     rw (bend-power n i k) (pos-le fin)
 
 -- ---- evaluations against numbers, for a part's row of any row
@@ -142,8 +142,8 @@ deep-bends c M (suc (suc m)) r h d p k l = deep-bend c M m r (λ i j. h i (omega
 
 deep-bent : (n d p j : ℕ) → 0 < n → j ≤ n → (c M : ℤ) (r : Row) → ((k : ℕ) → suc (suc k) ≤ n → (c *ℤ bend r k) ≤ℤ M)
     → (pos 2 *ℤ (pos n *ℤ ((pos (4 ^ d) *ℤ c) *ℤ ev (pos (n - j)) (pos j) n (deep (half n) d p r))))
-      ≤ℤ ((pos 2 *ℤ (pos n *ℤ ((pos (4 ^ d) *ℤ c) *ℤ (pos (n ^ n) *ℤ deep (half n) d p r j))))
-          +ℤ (pos (n ^ n) *ℤ ((pos (2 ^ (n * d)) *ℤ M) *ℤ pos (j * (n - j)))))
+    ≤ℤ ((pos 2 *ℤ (pos n *ℤ ((pos (4 ^ d) *ℤ c) *ℤ (pos (n ^ n) *ℤ deep (half n) d p r j))))
+    +ℤ (pos (n ^ n) *ℤ ((pos (2 ^ (n * d)) *ℤ M) *ℤ pos (j * (n - j)))))
 deep-bent n d p j n0 h c M r bends =
     bent n j n0 h (pos (4 ^ d) *ℤ c) (pos (2 ^ (n * d)) *ℤ M) (deep (half n) d p r) (deep-bends c M n r bends d p)
 
@@ -163,11 +163,11 @@ some-bend : (n f g N P J M R : ℕ) (A B : ℤ) → 0 < g → M * J ≤ R * g
 some-bend n f g N P J M R A B g0 l h =
     let K : ℤ = pos (2 * n * f) in
     let h′ : (pos g *ℤ (K *ℤ A)) ≤ℤ ((pos g *ℤ (K *ℤ B)) +ℤ pos (N * ((P * M) * J))) =
-      rw (gather (pos 2) (pos n) (pos f) (pos g) A, gather (pos 2) (pos n) (pos f) (pos g) B) at h in
+    rw (gather (pos 2) (pos n) (pos f) (pos g) A, gather (pos 2) (pos n) (pos f) (pos g) B) at h in
     let more : pos (N * ((P * M) * J)) ≤ℤ pos (g * (N * (P * R))) = pos-le (bound-nats N P M J R g l) in
     mul-le-cancel g g0
-      (rw (*ℤ-+ℤ (pos g) (K *ℤ B) (pos (N * (P * R))))
-        (le-trans h′ (add-le (≤ℤ-refl (pos g *ℤ (K *ℤ B))) more)))
+    (rw (*ℤ-+ℤ (pos g) (K *ℤ B) (pos (N * (P * R))))
+    (le-trans h′ (add-le (≤ℤ-refl (pos g *ℤ (K *ℤ B))) more)))
 
 no-bend : (n f N P J : ℕ) (A B : ℤ) → 0 < n → 0 < f
     → (pos 2 *ℤ (pos n *ℤ ((pos f *ℤ pos 1) *ℤ A))) ≤ℤ ((pos 2 *ℤ (pos n *ℤ ((pos f *ℤ pos 1) *ℤ B))) +ℤ (pos N *ℤ ((pos P *ℤ pos 0) *ℤ pos J)))
@@ -253,10 +253,10 @@ place-under zero d p j i h l k = le-eq (none-left d p j i h l k)
 place-under (suc m) d p j i h l k =
     let n : ℕ = suc m in
     le-trans
-      (turned-bend n (4 ^ d) (n ^ n) (2 ^ (n * d)) (j * (n - j)) (ev (pos (n - j)) (pos j) n (λ k. piece n d p k i)) (place-row n d p j i)
-        (omega arith) (one-le-pow d 4 (omega arith))
-        (deep-bent n d p j (omega arith) l (negsuc 0) (pos 0) (λ k. pos (weight n k i)) (λ k q. bend-up n i k)))
-      (le-eq (point-is n d p j i h l k))
+    (turned-bend n (4 ^ d) (n ^ n) (2 ^ (n * d)) (j * (n - j)) (ev (pos (n - j)) (pos j) n (λ k. piece n d p k i)) (place-row n d p j i)
+    (omega arith) (one-le-pow d 4 (omega arith))
+    (deep-bent n d p j (omega arith) l (negsuc 0) (pos 0) (λ k. pos (weight n k i)) (λ k q. bend-up n i k)))
+    (le-eq (point-is n d p j i h l k))
 
 -- below the power 2 nothing is lost
 place-flat : (m d p j i : ℕ) → p < 2 ^ d → j ≤ suc m → i ≤ suc m → i < 2 → point-row (suc m) d p j i ≤ℤ place-row (suc m) d p j i
@@ -264,9 +264,9 @@ unfolding grain
 place-flat m d p j i h l k two =
     let n : ℕ = suc m in
     le-trans (le-eq (sym (point-is n d p j i h l k)))
-      (no-bend n (4 ^ d) (n ^ n) (2 ^ (n * d)) (j * (n - j)) (ev (pos (n - j)) (pos j) n (λ k. piece n d p k i)) (place-row n d p j i)
-        (omega arith) (one-le-pow d 4 (omega arith))
-        (deep-bent n d p j (omega arith) l (pos 1) (pos 0) (λ k. pos (weight n k i)) (λ k q. rw (one-mul (bend (λ j. pos (weight n j i)) k), bend-flat n i k two) (≤ℤ-refl (pos 0)))))
+    (no-bend n (4 ^ d) (n ^ n) (2 ^ (n * d)) (j * (n - j)) (ev (pos (n - j)) (pos j) n (λ k. piece n d p k i)) (place-row n d p j i)
+    (omega arith) (one-le-pow d 4 (omega arith))
+    (deep-bent n d p j (omega arith) l (pos 1) (pos 0) (λ k. pos (weight n k i)) (λ k q. rw (one-mul (bend (λ j. pos (weight n j i)) k), bend-flat n i k two) (≤ℤ-refl (pos 0)))))
 
 most-pairs : (m j : ℕ) → j ≤ suc (suc m) → j * (suc (suc m) - j) ≤ suc (suc m) * suc m
 most-pairs m zero h = omega (arith, zero-mul (suc (suc m) - 0))
@@ -277,7 +277,7 @@ scale-nats F P N q = simp nats
 
 place-bent : (m d p j i : ℕ) → p < 2 ^ d → j ≤ suc (suc m) → i ≤ m
     → (pos (2 * suc (suc m) * 4 ^ d) *ℤ point-row (suc (suc m)) d p j (suc (suc i)))
-      ≤ℤ ((pos (2 * suc (suc m) * 4 ^ d) *ℤ place-row (suc (suc m)) d p j (suc (suc i))) +ℤ pos (point-scale (suc (suc m)) d * (suc (suc i) * suc i)))
+    ≤ℤ ((pos (2 * suc (suc m) * 4 ^ d) *ℤ place-row (suc (suc m)) d p j (suc (suc i))) +ℤ pos (point-scale (suc (suc m)) d * (suc (suc i) * suc i)))
 unfolding grain
 place-bent m d p j i h l k =
     let n : ℕ = suc (suc m) in
@@ -285,12 +285,12 @@ place-bent m d p j i h l k =
     let A : ℤ = ev (pos (n - j)) (pos j) n (λ k. piece n d p k (suc (suc i))) in
     let M : ℕ = factorial n * q in
     let b : (pos (2 * n * 4 ^ d) *ℤ A) ≤ℤ ((pos (2 * n * 4 ^ d) *ℤ place-row n d p j (suc (suc i))) +ℤ pos (n ^ n * (2 ^ (n * d) * M))) =
-      some-bend n (4 ^ d) (n * suc m) (n ^ n) (2 ^ (n * d)) (j * (n - j)) M M A (place-row n d p j (suc (suc i)))
-        (mul-pos (omega arith) (omega arith)) (mul-le-mul-left M (most-pairs m j l))
-        (deep-bent n d p j (omega arith) l (pos (n * suc m)) (pos M) (λ k. pos (weight n k (suc (suc i)))) (λ b r. bend-top m i b (omega arith) k)) in
+    some-bend n (4 ^ d) (n * suc m) (n ^ n) (2 ^ (n * d)) (j * (n - j)) M M A (place-row n d p j (suc (suc i)))
+    (mul-pos (omega arith) (omega arith)) (mul-le-mul-left M (most-pairs m j l))
+    (deep-bent n d p j (omega arith) l (pos (n * suc m)) (pos M) (λ k. pos (weight n k (suc (suc i)))) (λ b r. bend-top m i b (omega arith) k)) in
     let scale : n ^ n * (2 ^ (n * d) * M) ≡ point-scale n d * q =
-      scale-nats (factorial n) (2 ^ (n * d)) (n ^ n) q
-      ∙ ap (λ z. (factorial n * z) * q) (ap (λ z. z * n ^ n) (sym (pow-pow 2 d n)) ∙ sym (mul-pow (2 ^ d) n n)) in
+    scale-nats (factorial n) (2 ^ (n * d)) (n ^ n) q
+    ∙ ap (λ z. (factorial n * z) * q) (ap (λ z. z * n ^ n) (sym (pow-pow 2 d n)) ∙ sym (mul-pow (2 ^ d) n n)) in
     rw (point-is n d p j (suc (suc i)) h l (omega arith), scale) at b
 
 le-more : (K T q : ℕ) (x y : ℤ) → x ≤ℤ y → (pos K *ℤ x) ≤ℤ ((pos K *ℤ y) +ℤ (pos T *ℤ pos q))
@@ -320,9 +320,10 @@ place-still (suc m) d p j i h l k e = absurd (omega arith)
 
 pub place-close : (n d p j : ℕ) → p < 2 ^ d → j ≤ n → Close n d (point-scale n d) (point-row n d p j) (place-row n d p j)
 place-close n d p j h l = record {
-    least = λ i k. mul-nonneg (pos-le (omega arith)) (piece-least n d p j i l);
-    under = λ i k. place-under n d p j i h l k;
-    most = λ i k. pos-le (mul-le-mul-left (factorial n)
+  least = λ i k. mul-nonneg (pos-le (omega arith)) (piece-least n d p j i l);
+  under = λ i k. place-under n d p j i h l k;
+  most = λ i k. pos-le (mul-le-mul-left (factorial n)
       (share-le n i (p * grain n + j) (2 ^ d * grain n) k (room d p (grain n) j h (NatL.le-trans l (grain-le n)))));
-    near = λ i k. place-near n d p j i h l k;
-    still = λ e i k. place-still n d p j i h l k e }
+  near = λ i k. place-near n d p j i h l k;
+  still = λ e i k. place-still n d p j i h l k e;
+}

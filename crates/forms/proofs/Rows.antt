@@ -42,7 +42,7 @@ unfolding ev
 ev-reads w u zero r s h = h 0 (omega arith)
 ev-reads w u (suc n) r s h =
     ap₂ (λ x y. (w *ℤ x) +ℤ (u *ℤ y)) (ev-reads w u n r s (λ k l. h k (omega arith)))
-      (ev-reads w u n (shift r) (shift s) (λ k l. h (suc k) (omega arith)))
+    (ev-reads w u n (shift r) (shift s) (λ k l. h (suc k) (omega arith)))
 
 pub ev-le : (w u n : ℕ) (r s : Row) → ((k : ℕ) → k ≤ n → r k ≤ℤ s k) → ev (pos w) (pos u) n r ≤ℤ ev (pos w) (pos u) n s
 unfolding ev
@@ -64,7 +64,7 @@ unfolding ev
 ev-constant w u s zero e c = rw (pow-zero s) (sym (one-mul c))
 ev-constant w u s (suc n) e c =
     rw (ev-constant w u s n e c, pow-succ' s n, ← e)
-      (sym (*ℤ-assoc (pos (w + u)) (pos ((w + u) ^ n)) c ∙ +ℤ-*ℤ (pos w) (pos u) (pos ((w + u) ^ n) *ℤ c)))
+    (sym (*ℤ-assoc (pos (w + u)) (pos ((w + u) ^ n)) c ∙ +ℤ-*ℤ (pos w) (pos u) (pos ((w + u) ^ n) *ℤ c)))
 
 -- at u/(0 + u) only the last number counts
 pub ev-last : (u n : ℕ) (r : Row) → ev (pos 0) (pos u) n r ≡ pos (u ^ n) *ℤ r n
@@ -72,7 +72,7 @@ unfolding ev
 ev-last u zero r = rw (pow-zero u) (sym (one-mul (r 0)))
 ev-last u (suc n) r =
     rw (ev-last u n (shift r), zero-*ℤ (ev (pos 0) (pos u) n r), +ℤ-idl (pos u *ℤ (pos (u ^ n) *ℤ r (suc n))), pow-succ' u n)
-      (sym (*ℤ-assoc (pos u) (pos (u ^ n)) (r (suc n))))
+    (sym (*ℤ-assoc (pos u) (pos (u ^ n)) (r (suc n))))
 
 -- the step of the next lemma, over ℤ and over ℕ
 choose-ring : (P Q S w u E F x y : ℤ) → P ≡ S *ℤ Q → P *ℤ E ≡ x → Q *ℤ F ≡ y
@@ -94,8 +94,8 @@ ev-choose w u s e (suc n) (suc i) =
     let E : ℤ = ev (pos w) (pos u) n (λ j. pos (choose j (suc i))) in
     let F : ℤ = ev (pos w) (pos u) n (λ j. pos (choose j i)) in
     let a : ev (pos w) (pos u) n (λ j. pos (choose j i) +ℤ pos (choose j (suc i))) ≡ F +ℤ E =
-      ev-add (pos w) (pos u) n (λ j. pos (choose j i)) (λ j. pos (choose j (suc i))) in
+    ev-add (pos w) (pos u) n (λ j. pos (choose j i)) (λ j. pos (choose j (suc i))) in
     ap (λ z. pos (s ^ suc i) *ℤ ((pos w *ℤ E) +ℤ (pos u *ℤ z))) a
     ∙ choose-ring (pos (s ^ suc i)) (pos (s ^ i)) (pos s) (pos w) (pos u) E F (pos (choose n (suc i) * (u ^ suc i * s ^ n))) (pos (choose n i * (u ^ i * s ^ n)))
-        (ap pos (pow-succ' s i)) (ev-choose w u s e n (suc i)) (ev-choose w u s e n i)
+    (ap pos (pow-succ' s i)) (ev-choose w u s e n (suc i)) (ev-choose w u s e n i)
     ∙ ap pos (rw (pow-succ' u i, pow-succ' s n) (choose-nats w u s (choose n i) (choose n (suc i)) (u ^ i) (s ^ n) e))

@@ -6,7 +6,7 @@ use native.Mathlib.Nat.{div-le-self, mod-le, mul-le-mul, mul-le-mul-right}
 use native.Mathlib.Numerals.{add-one}
 use native.Mathlib.Omega.{arith}
 use lib.Dec.{lit<}
-use lib.IntN.{ℤ, pos, negℤ, natAbs, _+ℤ_, _-ℤ_, _*ℤ_, *ℤ-zero}
+use lib.IntN.{ℤ, pos, natAbs, _+ℤ_, _-ℤ_, _*ℤ_, *ℤ-zero}
 use lib.ListN.{getD}
 use lib.Pow.{pow-pos}
 use lib.Signed.{_≤ℤ_, natAbs-le}
@@ -22,6 +22,7 @@ use Rattle.arith.proofs.Sums.{sum-last, sum-bound, sum-nonneg}
 use Rattle.mapping.specs.Terms.{terms, exponents}
 use Rattle.mapping.specs.declared.mapping.Mapping.{Mapping}
 use Rattle.forms.specs.Nested.{moment}
+use Rattle.forms.specs.Worked.{Within}
 use Rattle.forms.proofs.Working.{fits}
 
 -- an exponent is at most the place of its coefficient
@@ -42,14 +43,14 @@ part-small m v t h l =
 
 module _ (m : Mapping) (v : ℕ) (input : v < 3) where
   -- ---- the sum so far
-  sum-small : (n : ℕ) → n ≤ 64 → (negℤ (pos (2 ^ 43)) ≤ℤ sum n (λ t. pos (part m v t))) × (sum n (λ t. pos (part m v t)) ≤ℤ pos (2 ^ 43))
+  sum-small : (n : ℕ) → n ≤ 64 → Within (2 ^ 43) (sum n (λ t. pos (part m v t)))
   sum-small n l =
       let b = sum-bound n (2 ^ 37) (λ t. pos (part m v t)) (λ t h. let p = part-small m v t input (omega arith) in omega (arith, lin)) in
       let k : n * 2 ^ 37 ≤ 2 ^ 43 = omega arith in
       omega (arith, lin)
 
   module _ (n e s : ℕ) (z x : ℤ) (inside : n < 64) (was : z ≡ sum n (λ t. pos (part m v t)))
-    (exponent : e ≡ getD (exponents (m .degrees) n) v 0) (size : s ≡ natAbs (getD (m .coefficients) n (pos 0))) (is : x ≡ pos s) where
+      (exponent : e ≡ getD (exponents (m .degrees) n) v 0) (size : s ≡ natAbs (getD (m .coefficients) n (pos 0))) (is : x ≡ pos s) where
     -- the part of the coefficient at n, as the code computes it
     abbrev next-part : ℤ
     next-part = toZ w64 e *ℤ toZ w64 (ofZ w64 x)

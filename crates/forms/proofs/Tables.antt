@@ -31,7 +31,7 @@ stage : (e W n d p : ℕ) (H : Row → ℤ) → Linear n H → (l : Row) → ((j
     → (j : ℕ) → j ≤ n → Near (e + n * d) (2 ^ (n * d) * W) (deep (kept mean-down n) d p l j) (H (piece n d p j))
 stage e W n d p H L l h j le =
     subst (Near (e + n * d) (2 ^ (n * d) * W) (deep (kept mean-down n) d p l j)) (deep-swap n H L n d p (weights n) j)
-      (near-deep e W n d p l (λ j. H (weights n j)) h j le)
+    (near-deep e W n d p l (λ j. H (weights n j)) h j le)
 
 -- ---- the first rounding
 
@@ -41,7 +41,7 @@ rounded N z N0 =
     let lo : (pos N *ℤ q) ≤ℤ z = quot-down-is z N N0 .0 in
     let hi : (z +ℤ pos 1) ≤ℤ ((pos N *ℤ q) +ℤ pos N) = quot-down-is z N N0 .1 in
     let e : pos N *ℤ ((pos 2 *ℤ q) +ℤ pos 2) ≡ (pos 2 *ℤ (pos N *ℤ q)) +ℤ pos (N * 2) =
-      *ℤ-+ℤ (pos N) (pos 2 *ℤ q) (pos 2) ∙ ap (λ m. m +ℤ pos (N * 2)) (*ℤ-left-comm (pos N) (pos 2) q) in
+    *ℤ-+ℤ (pos N) (pos 2 *ℤ q) (pos 2) ∙ ap (λ m. m +ℤ pos (N * 2)) (*ℤ-left-comm (pos N) (pos 2) q) in
     record { below = lo; above = rw e (plain z (pos N *ℤ q) N hi) }
   where
     plain : (z m : ℤ) (N : ℕ) → (z +ℤ pos 1) ≤ℤ (m +ℤ pos N) → (pos 2 *ℤ z) ≤ℤ ((pos 2 *ℤ m) +ℤ pos (N * 2))
@@ -54,7 +54,7 @@ first-is q n1 n2 n3 a j1 j2 j3 = refl
 
 pub low-table-is : (n1 n2 n3 : ℕ) (a : Table) (d1 p1 d2 p2 d3 p3 j1 j2 j3 : ℕ)
     → deep (kept mean-down n3) d3 p3 (λ x3. deep (kept mean-down n2) d2 p2 (λ x2. deep (kept mean-down n1) d1 p1 (λ x1. first quot-down n1 n2 n3 a x1 x2 x3) j1) j2) j3
-      ≡ low-table n1 n2 n3 a d1 p1 d2 p2 d3 p3 j1 j2 j3
+    ≡ low-table n1 n2 n3 a d1 p1 d2 p2 d3 p3 j1 j2 j3
 unfolding low-table halved
 low-table-is n1 n2 n3 a d1 p1 d2 p2 d3 p3 j1 j2 j3 = refl
 
@@ -83,14 +83,13 @@ abbrev pub exact : ℕ → ℕ → ℕ → Table → ℕ → ℕ → ℕ → ℕ
 exact n1 n2 n3 a d1 p1 d2 p2 d3 p3 j1 j2 j3 = weighed n1 n2 n3 a (piece n1 d1 p1 j1) (piece n2 d2 p2 j2) (piece n3 d3 p3 j3)
 
 module _ (n1 n2 n3 : ℕ) (a : Table) (d1 p1 d2 p2 d3 p3 : ℕ) where
-
   first-near : (j1 j2 j3 : ℕ) → Near 2 (factorial n1 * (factorial n2 * factorial n3)) (first quot-down n1 n2 n3 a j1 j2 j3)
       (weighed n1 n2 n3 a (weights n1 j1) (weights n2 j2) (weights n3 j3))
   first-near j1 j2 j3 =
       let F : ℕ = factorial n1 * (factorial n2 * factorial n3) in
       let z : ℤ = weighed n1 n2 n3 a (weights n1 j1) (weights n2 j2) (weights n3 j3) in
       subst (λ l. Near 2 F l z) (first-is quot-down n1 n2 n3 a j1 j2 j3)
-        (rounded F z (mul-pos (factorial-pos n1) (mul-pos (factorial-pos n2) (factorial-pos n3))))
+      (rounded F z (mul-pos (factorial-pos n1) (mul-pos (factorial-pos n2) (factorial-pos n3))))
 
   pub table-near : (j1 j2 j3 : ℕ) → j1 ≤ n1 → j2 ≤ n2 → j3 ≤ n3
       → Near (((2 + n1 * d1) + n2 * d2) + n3 * d3) (unit n1 n2 n3 d1 d2 d3) (low-table n1 n2 n3 a d1 p1 d2 p2 d3 p3 j1 j2 j3) (exact n1 n2 n3 a d1 p1 d2 p2 d3 p3 j1 j2 j3)
@@ -102,12 +101,12 @@ module _ (n1 n2 n3 : ℕ) (a : Table) (d1 p1 d2 p2 d3 p3 : ℕ) where
       let T1 : Table = λ i x2 x3. deep (kept mean-down n1) d1 p1 (λ x1. first quot-down n1 n2 n3 a x1 x2 x3) i in
       let T2 : Table = λ i j x3. deep (kept mean-down n2) d2 p2 (λ x2. T1 i x2 x3) j in
       let one : (x2 x3 : ℕ) → Near (2 + n1 * d1) W1 (T1 j1 x2 x3) (weighed n1 n2 n3 a (piece n1 d1 p1 j1) (weights n2 x2) (weights n3 x3)) =
-        λ x2 x3. stage 2 F n1 d1 p1 (λ x. weighed n1 n2 n3 a x (weights n2 x2) (weights n3 x3)) (linear1 n1 n2 n3 a (weights n2 x2) (weights n3 x3))
-          (λ x1. first quot-down n1 n2 n3 a x1 x2 x3) (λ x1 _. first-near x1 x2 x3) j1 h1 in
+      λ x2 x3. stage 2 F n1 d1 p1 (λ x. weighed n1 n2 n3 a x (weights n2 x2) (weights n3 x3)) (linear1 n1 n2 n3 a (weights n2 x2) (weights n3 x3))
+      (λ x1. first quot-down n1 n2 n3 a x1 x2 x3) (λ x1 _. first-near x1 x2 x3) j1 h1 in
       let two : (x3 : ℕ) → Near ((2 + n1 * d1) + n2 * d2) W2 (T2 j1 j2 x3) (weighed n1 n2 n3 a (piece n1 d1 p1 j1) (piece n2 d2 p2 j2) (weights n3 x3)) =
-        λ x3. stage (2 + n1 * d1) W1 n2 d2 p2 (λ y. weighed n1 n2 n3 a (piece n1 d1 p1 j1) y (weights n3 x3)) (linear2 n1 n2 n3 a (piece n1 d1 p1 j1) (weights n3 x3))
-          (λ x2. T1 j1 x2 x3) (λ x2 _. one x2 x3) j2 h2 in
+      λ x3. stage (2 + n1 * d1) W1 n2 d2 p2 (λ y. weighed n1 n2 n3 a (piece n1 d1 p1 j1) y (weights n3 x3)) (linear2 n1 n2 n3 a (piece n1 d1 p1 j1) (weights n3 x3))
+      (λ x2. T1 j1 x2 x3) (λ x2 _. one x2 x3) j2 h2 in
       subst (λ l. Near (((2 + n1 * d1) + n2 * d2) + n3 * d3) (2 ^ (n3 * d3) * W2) l (exact n1 n2 n3 a d1 p1 d2 p2 d3 p3 j1 j2 j3))
-        (low-table-is n1 n2 n3 a d1 p1 d2 p2 d3 p3 j1 j2 j3)
-        (stage ((2 + n1 * d1) + n2 * d2) W2 n3 d3 p3 (λ z. weighed n1 n2 n3 a (piece n1 d1 p1 j1) (piece n2 d2 p2 j2) z)
-          (linear3 n1 n2 n3 a (piece n1 d1 p1 j1) (piece n2 d2 p2 j2)) (λ x3. T2 j1 j2 x3) (λ x3 _. two x3) j3 h3)
+      (low-table-is n1 n2 n3 a d1 p1 d2 p2 d3 p3 j1 j2 j3)
+      (stage ((2 + n1 * d1) + n2 * d2) W2 n3 d3 p3 (λ z. weighed n1 n2 n3 a (piece n1 d1 p1 j1) (piece n2 d2 p2 j2) z)
+      (linear3 n1 n2 n3 a (piece n1 d1 p1 j1) (piece n2 d2 p2 j2)) (λ x3. T2 j1 j2 x3) (λ x3 _. two x3) j3 h3)

@@ -1,5 +1,5 @@
 -- A pair keeps the rules of a form where its parts do. Assumes nothing.
-use mathlib.Core.Path.{_≡_, refl, sym, ap, subst, _∙_}
+use mathlib.Core.Path.{_≡_, sym, subst}
 use mathlib.Core.Logic.{_⊎_, inl, inr, ⊎-elim}
 use native.Mathlib.Omega.{arith}
 use lib.IntN.{ℤ, _+ℤ_, _-ℤ_}
@@ -41,25 +41,25 @@ module _ (f g : Mapping → Cell → Answer) (rf : Rules f) (rg : Rules g) where
   pub pair-rules : Rules (both f g)
   pair-rules = record {
     low-holds = λ m c p r i.
-      ⊎-elim
-      (λ (e : maxZ (f m c .low) (g m c .low) ≡ f m c .low). subst (AtLeast m p) (sym e) (rf .low-holds m c p r i))
-      (λ (e : maxZ (f m c .low) (g m c .low) ≡ g m c .low). subst (AtLeast m p) (sym e) (rg .low-holds m c p r i))
-      (max-one (f m c .low) (g m c .low));
+        ⊎-elim
+        (λ (e : maxZ (f m c .low) (g m c .low) ≡ f m c .low). subst (AtLeast m p) (sym e) (rf .low-holds m c p r i))
+        (λ (e : maxZ (f m c .low) (g m c .low) ≡ g m c .low). subst (AtLeast m p) (sym e) (rg .low-holds m c p r i))
+        (max-one (f m c .low) (g m c .low));
     high-holds = λ m c p r i.
-      ⊎-elim
-      (λ (e : minZ (f m c .high) (g m c .high) ≡ f m c .high). subst (AtMost m p) (sym e) (rf .high-holds m c p r i))
-      (λ (e : minZ (f m c .high) (g m c .high) ≡ g m c .high). subst (AtMost m p) (sym e) (rg .high-holds m c p r i))
-      (min-one (f m c .high) (g m c .high));
+        ⊎-elim
+        (λ (e : minZ (f m c .high) (g m c .high) ≡ f m c .high). subst (AtMost m p) (sym e) (rf .high-holds m c p r i))
+        (λ (e : minZ (f m c .high) (g m c .high) ≡ g m c .high). subst (AtMost m p) (sym e) (rg .high-holds m c p r i))
+        (min-one (f m c .high) (g m c .high));
     low-near = λ m c.
-      let near : ((minZ (f m c .slack) (g m c .slack) ≡ f m c .slack) ⊎ (minZ (f m c .slack) (g m c .slack) ≡ g m c .slack)) → (p : Point) × Rational p × In p (c .shape) × AtMost m p (both f g m c .low +ℤ both f g m c .slack) =
+        let near : ((minZ (f m c .slack) (g m c .slack) ≡ f m c .slack) ⊎ (minZ (f m c .slack) (g m c .slack) ≡ g m c .slack)) → (p : Point) × Rational p × In p (c .shape) × AtMost m p (both f g m c .low +ℤ both f g m c .slack) =
         ⊎-elim
         (λ e. let n = rf .low-near m c in (n .0, n .1, n .2, at-most-weaker m (n .0) _ _ (low-nearer (f m c .low) (g m c .low) (f m c .slack) (g m c .slack) e) (n .3)))
         (λ e. let n = rg .low-near m c in (n .0, n .1, n .2, at-most-weaker m (n .0) _ _ (low-nearer′ (f m c .low) (g m c .low) (f m c .slack) (g m c .slack) e) (n .3))) in
-      near (min-one (f m c .slack) (g m c .slack));
+        near (min-one (f m c .slack) (g m c .slack));
     high-near = λ m c.
-      let near : ((minZ (f m c .slack) (g m c .slack) ≡ f m c .slack) ⊎ (minZ (f m c .slack) (g m c .slack) ≡ g m c .slack)) → (p : Point) × Rational p × In p (c .shape) × AtLeast m p (both f g m c .high -ℤ both f g m c .slack) =
+        let near : ((minZ (f m c .slack) (g m c .slack) ≡ f m c .slack) ⊎ (minZ (f m c .slack) (g m c .slack) ≡ g m c .slack)) → (p : Point) × Rational p × In p (c .shape) × AtLeast m p (both f g m c .high -ℤ both f g m c .slack) =
         ⊎-elim
         (λ e. let n = rf .high-near m c in (n .0, n .1, n .2, at-least-weaker m (n .0) _ _ (high-nearer (f m c .high) (g m c .high) (f m c .slack) (g m c .slack) e) (n .3)))
         (λ e. let n = rg .high-near m c in (n .0, n .1, n .2, at-least-weaker m (n .0) _ _ (high-nearer′ (f m c .high) (g m c .high) (f m c .slack) (g m c .slack) e) (n .3))) in
-      near (min-one (f m c .slack) (g m c .slack));
+        near (min-one (f m c .slack) (g m c .slack));
   }

@@ -12,7 +12,8 @@ use Rattle.forms.specs.Halving.{Row}
 use Rattle.forms.specs.Polynomial.{Table, weighed}
 use Rattle.mapping.specs.Polynomials.{poly, share}
 use Rattle.forms.specs.Tables.{sizes}
-use Rattle.forms.proofs.Extra.{sum-add, sum-scale, sum-le, sum-same, minus-one}
+use Rattle.forms.proofs.Extra.{minus-one}
+use Rattle.arith.proofs.Sums.{sum-add, sum-scale, sum-le, sum-ext}
 use Rattle.forms.proofs.Rows.{Linear}
 use Rattle.arith.proofs.Ring.{ring, lin, *ℤ-assoc, neg-*ℤ}
 use Rattle.arith.proofs.Order.{mul-le, mul-le-by, mul-nonneg, le-trans, le-eq}
@@ -23,28 +24,28 @@ total n1 n2 n3 F = sum (suc n1) λ i. sum (suc n2) λ j. sum (suc n3) λ k. F i 
 total-add : (n1 n2 n3 : ℕ) (F G : Table) → total n1 n2 n3 (λ i j k. F i j k +ℤ G i j k) ≡ total n1 n2 n3 F +ℤ total n1 n2 n3 G
 total-add n1 n2 n3 F G =
     ap (sum (suc n1)) (fun-ext λ i.
-      ap (sum (suc n2)) (fun-ext λ j. sum-add (suc n3) (F i j) (G i j))
-      ∙ sum-add (suc n2) (λ j. sum (suc n3) (F i j)) (λ j. sum (suc n3) (G i j)))
+    ap (sum (suc n2)) (fun-ext λ j. sum-add (suc n3) (F i j) (G i j))
+    ∙ sum-add (suc n2) (λ j. sum (suc n3) (F i j)) (λ j. sum (suc n3) (G i j)))
     ∙ sum-add (suc n1) (λ i. sum (suc n2) λ j. sum (suc n3) (F i j)) (λ i. sum (suc n2) λ j. sum (suc n3) (G i j))
 
 total-scale : (n1 n2 n3 : ℕ) (c : ℤ) (F : Table) → total n1 n2 n3 (λ i j k. c *ℤ F i j k) ≡ c *ℤ total n1 n2 n3 F
 total-scale n1 n2 n3 c F =
     ap (sum (suc n1)) (fun-ext λ i.
-      ap (sum (suc n2)) (fun-ext λ j. sum-scale (suc n3) c (F i j))
-      ∙ sum-scale (suc n2) c (λ j. sum (suc n3) (F i j)))
+    ap (sum (suc n2)) (fun-ext λ j. sum-scale (suc n3) c (F i j))
+    ∙ sum-scale (suc n2) c (λ j. sum (suc n3) (F i j)))
     ∙ sum-scale (suc n1) c (λ i. sum (suc n2) λ j. sum (suc n3) (F i j))
 
 total-le : (n1 n2 n3 : ℕ) (F G : Table) → ((i j k : ℕ) → i ≤ n1 → j ≤ n2 → k ≤ n3 → F i j k ≤ℤ G i j k) → total n1 n2 n3 F ≤ℤ total n1 n2 n3 G
 total-le n1 n2 n3 F G h =
     sum-le (suc n1) (λ i. sum (suc n2) λ j. sum (suc n3) (F i j)) (λ i. sum (suc n2) λ j. sum (suc n3) (G i j)) λ i a.
-      sum-le (suc n2) (λ j. sum (suc n3) (F i j)) (λ j. sum (suc n3) (G i j)) λ j b.
-        sum-le (suc n3) (F i j) (G i j) λ k c. h i j k (omega arith) (omega arith) (omega arith)
+    sum-le (suc n2) (λ j. sum (suc n3) (F i j)) (λ j. sum (suc n3) (G i j)) λ j b.
+    sum-le (suc n3) (F i j) (G i j) λ k c. h i j k (omega arith) (omega arith) (omega arith)
 
 total-same : (n1 n2 n3 : ℕ) (F G : Table) → ((i j k : ℕ) → i ≤ n1 → j ≤ n2 → k ≤ n3 → F i j k ≡ G i j k) → total n1 n2 n3 F ≡ total n1 n2 n3 G
 total-same n1 n2 n3 F G h =
-    sum-same (suc n1) (λ i. sum (suc n2) λ j. sum (suc n3) (F i j)) (λ i. sum (suc n2) λ j. sum (suc n3) (G i j)) λ i a.
-      sum-same (suc n2) (λ j. sum (suc n3) (F i j)) (λ j. sum (suc n3) (G i j)) λ j b.
-        sum-same (suc n3) (F i j) (G i j) λ k c. h i j k (omega arith) (omega arith) (omega arith)
+    sum-ext (suc n1) (λ i. sum (suc n2) λ j. sum (suc n3) (F i j)) (λ i. sum (suc n2) λ j. sum (suc n3) (G i j)) λ i a.
+    sum-ext (suc n2) (λ j. sum (suc n3) (F i j)) (λ j. sum (suc n3) (G i j)) λ j b.
+    sum-ext (suc n3) (F i j) (G i j) λ k c. h i j k (omega arith) (omega arith) (omega arith)
 
 -- ---- linear in the weights of each input
 
@@ -70,39 +71,41 @@ scale3 : (a c x y z : ℤ) → a *ℤ (x *ℤ (y *ℤ (c *ℤ z))) ≡ c *ℤ (a
 scale3 a c x y z = simp ring
 
 module _ (n1 n2 n3 : ℕ) (a : Table) where
-
   pub linear1 : (y z : Row) → Linear n1 (λ x. weighed n1 n2 n3 a x y z)
   unfolding weighed
   linear1 y z = record {
-      add = λ r s.
+    add = λ r s.
         total-same n1 n2 n3 (term a (λ i. r i +ℤ s i) y z) (λ i j k. term a r y z i j k +ℤ term a s y z i j k) (λ i j k _ _ _. add1 (a i j k) (r i) (s i) (y j *ℤ z k))
         ∙ total-add n1 n2 n3 (term a r y z) (term a s y z);
-      scale = λ c r.
+    scale = λ c r.
         total-same n1 n2 n3 (term a (λ i. c *ℤ r i) y z) (λ i j k. c *ℤ term a r y z i j k) (λ i j k _ _ _. scale1 (a i j k) c (r i) (y j *ℤ z k))
         ∙ total-scale n1 n2 n3 c (term a r y z);
-      reads = λ r s h. total-same n1 n2 n3 (term a r y z) (term a s y z) (λ i j k l _ _. ap (λ x. a i j k *ℤ (x *ℤ (y j *ℤ z k))) (h i l)) }
+    reads = λ r s h. total-same n1 n2 n3 (term a r y z) (term a s y z) (λ i j k l _ _. ap (λ x. a i j k *ℤ (x *ℤ (y j *ℤ z k))) (h i l));
+  }
 
   pub linear2 : (x z : Row) → Linear n2 (λ y. weighed n1 n2 n3 a x y z)
   unfolding weighed
   linear2 x z = record {
-      add = λ r s.
+    add = λ r s.
         total-same n1 n2 n3 (term a x (λ i. r i +ℤ s i) z) (λ i j k. term a x r z i j k +ℤ term a x s z i j k) (λ i j k _ _ _. add2 (a i j k) (x i) (r j) (s j) (z k))
         ∙ total-add n1 n2 n3 (term a x r z) (term a x s z);
-      scale = λ c r.
+    scale = λ c r.
         total-same n1 n2 n3 (term a x (λ i. c *ℤ r i) z) (λ i j k. c *ℤ term a x r z i j k) (λ i j k _ _ _. scale2 (a i j k) c (x i) (r j) (z k))
         ∙ total-scale n1 n2 n3 c (term a x r z);
-      reads = λ r s h. total-same n1 n2 n3 (term a x r z) (term a x s z) (λ i j k _ l _. ap (λ y. a i j k *ℤ (x i *ℤ (y *ℤ z k))) (h j l)) }
+    reads = λ r s h. total-same n1 n2 n3 (term a x r z) (term a x s z) (λ i j k _ l _. ap (λ y. a i j k *ℤ (x i *ℤ (y *ℤ z k))) (h j l));
+  }
 
   pub linear3 : (x y : Row) → Linear n3 (λ z. weighed n1 n2 n3 a x y z)
   unfolding weighed
   linear3 x y = record {
-      add = λ r s.
+    add = λ r s.
         total-same n1 n2 n3 (term a x y (λ i. r i +ℤ s i)) (λ i j k. term a x y r i j k +ℤ term a x y s i j k) (λ i j k _ _ _. add3 (a i j k) (x i) (y j) (r k) (s k))
         ∙ total-add n1 n2 n3 (term a x y r) (term a x y s);
-      scale = λ c r.
+    scale = λ c r.
         total-same n1 n2 n3 (term a x y (λ i. c *ℤ r i)) (λ i j k. c *ℤ term a x y r i j k) (λ i j k _ _ _. scale3 (a i j k) c (x i) (y j) (r k))
         ∙ total-scale n1 n2 n3 c (term a x y r);
-      reads = λ r s h. total-same n1 n2 n3 (term a x y r) (term a x y s) (λ i j k _ _ l. ap (λ z. a i j k *ℤ (x i *ℤ (y j *ℤ z))) (h k l)) }
+    reads = λ r s h. total-same n1 n2 n3 (term a x y r) (term a x y s) (λ i j k _ _ l. ap (λ z. a i j k *ℤ (x i *ℤ (y j *ℤ z))) (h k l));
+  }
 
   -- multiples of all three
   pub weighed-scale : (c d e : ℤ) (x y z : Row)
@@ -117,7 +120,7 @@ module _ (n1 n2 n3 : ℕ) (a : Table) where
   unfolding weighed
   weighed-neg x y z =
       total-same n1 n2 n3 (term (λ i j k. negℤ (a i j k)) x y z) (λ i j k. negsuc 0 *ℤ term a x y z i j k)
-        (λ i j k _ _ _. neg-*ℤ (a i j k) (x i *ℤ (y j *ℤ z k)) ∙ sym (minus-one (term a x y z i j k)))
+      (λ i j k _ _ _. neg-*ℤ (a i j k) (x i *ℤ (y j *ℤ z k)) ∙ sym (minus-one (term a x y z i j k)))
       ∙ total-scale n1 n2 n3 (negsuc 0) (term a x y z) ∙ minus-one (total n1 n2 n3 (term a x y z))
 
   -- the polynomial's value is such a sum
@@ -142,7 +145,7 @@ size-le : (a m M : ℤ) → pos 0 ≤ℤ m → m ≤ℤ M → (a *ℤ m) ≤ℤ 
 size-le (pos n) m M h l = mul-le n l
 size-le (negsuc n) m M h l =
     le-trans (le-eq (neg-*ℤ (pos (suc n)) m))
-      (turned-le (pos (suc n) *ℤ m) (pos (suc n) *ℤ M) (mul-nonneg {a = pos (suc n)} (omega (arith, lin)) h) (mul-le (suc n) l))
+    (turned-le (pos (suc n) *ℤ m) (pos (suc n) *ℤ M) (mul-nonneg {a = pos (suc n)} (omega (arith, lin)) h) (mul-le (suc n) l))
 
 mul-both : {a b c d : ℤ} → pos 0 ≤ℤ a → a ≤ℤ b → pos 0 ≤ℤ c → c ≤ℤ d → (a *ℤ c) ≤ℤ (b *ℤ d)
 mul-both {a} {b} {c} {d} h k l m =
@@ -158,6 +161,6 @@ pub weighed-le : (n1 n2 n3 : ℕ) (a : Table) (x X y Y z Z : Row) → Under n1 x
 unfolding weighed
 weighed-le n1 n2 n3 a x X y Y z Z p q r =
     total-le n1 n2 n3 (term a x y z) (term (sizes a) X Y Z) λ i j k l m o.
-      size-le (a i j k) (x i *ℤ (y j *ℤ z k)) (X i *ℤ (Y j *ℤ Z k))
-        (mul-nonneg (p .from i l) (mul-nonneg (q .from j m) (r .from k o)))
-        (mul-both (p .from i l) (p .to i l) (mul-nonneg (q .from j m) (r .from k o)) (mul-both (q .from j m) (q .to j m) (r .from k o) (r .to k o)))
+    size-le (a i j k) (x i *ℤ (y j *ℤ z k)) (X i *ℤ (Y j *ℤ Z k))
+    (mul-nonneg (p .from i l) (mul-nonneg (q .from j m) (r .from k o)))
+    (mul-both (p .from i l) (p .to i l) (mul-nonneg (q .from j m) (r .from k o)) (mul-both (q .from j m) (q .to j m) (r .from k o) (r .to k o)))

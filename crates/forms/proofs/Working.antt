@@ -6,10 +6,10 @@ use Prim.Native.Nat.{ℕ, suc, _+_, _-_, _*_, _^_, _<_, _≤_}
 use native.Mathlib.Nat.{add-zero, mul-add, mul-le-mul-right}
 use native.Mathlib.Omega.{arith}
 use lib.Dec.{lit<}
-use lib.IntN.{ℤ, pos, negsuc, negℤ, _+ℤ_}
+use lib.IntN.{ℤ, pos, negsuc, _+ℤ_}
 use lib.ListN.{length, getD, set}
 use lib.Seq.{getD-set-same, getD-set-other}
-use lib.Signed.{mag, _≤ℤ_}
+use lib.Signed.{mag}
 use borrow.Author.Count.{below-more}
 use mir.Syntax.{w64}
 use mir.Val.{toZ, ofZ, SFits}
@@ -18,7 +18,7 @@ use Rattle.arith.specs.Product.{Bound-kept, Tame}
 use Rattle.arith.specs.declared.factor.Factor.{Factor}
 use Rattle.arith.proofs.Ring.{lin}
 use Rattle.arith.proofs.Products.{low-kept, high-kept}
-use Rattle.forms.specs.Worked.{low-of, high-of, worked, Small}
+use Rattle.forms.specs.Worked.{low-of, high-of, worked, Within, Small}
 use Rattle.forms.proofs.Horner.{horner-none, horner-more, horner-ext, horner-bounded}
 
 pub low-of-kept : (f : Factor) (p : ℤ) → Bound-kept p (low-of f p)
@@ -39,13 +39,12 @@ module _ (by : ℤ → ℤ) (xs : List ℤ) where
       horner-more by n (λ k. getD xs (s + k) (pos 0))
       ∙ ap₂ (λ x i. by x +ℤ getD xs i (pos 0)) (horner-ext by n (λ k. getD xs (s + suc k) (pos 0)) (λ k. getD xs (suc s + k) (pos 0)) (λ k l. ap (λ i. getD xs i (pos 0)) (past k))) (add-zero s)
 
-  pub worked-small : ((p : ℤ) → Bound-kept p (by p)) → (b n s : ℕ) → Small b (s + n + 1) xs
-    → (negℤ (pos (suc n * b)) ≤ℤ worked by n xs s) × (worked by n xs s ≤ℤ pos (suc n * b))
+  pub worked-small : ((p : ℤ) → Bound-kept p (by p)) → (b n s : ℕ) → Small b (s + n + 1) xs → Within (suc n * b) (worked by n xs s)
   unfolding worked
   worked-small kept b n s h = horner-bounded by kept b n (λ k. getD xs (s + k) (pos 0)) (λ k l. h (s + k) (omega arith))
 
 -- ---- numbers that fit 64 bits
-pub fits : (b : ℕ) (z : ℤ) → b < 2 ^ 63 → (negℤ (pos b) ≤ℤ z) × (z ≤ℤ pos b) → SFits w64 z
+pub fits : (b : ℕ) (z : ℤ) → b < 2 ^ 63 → Within b z → SFits w64 z
 fits b (pos n) l h = record { sfits = omega (arith, lin, h) }
 fits b (negsuc n) l h = record { sfits = omega (arith, lin, h) }
 
@@ -54,7 +53,7 @@ module _ (by : ℤ → ℤ) (kept : (p : ℤ) → Bound-kept p (by p)) (xs : Lis
   pub entry-fits : (i : ℕ) → i < start + degree + 1 → SFits w64 (getD xs i (pos 0))
   entry-fits i l = fits (2 ^ 40) (getD xs i (pos 0)) (lit< tt) (small i l)
 
-  pub so-far-small : (k : ℕ) (z : ℤ) → k ≤ degree → z ≡ worked by (degree - k) xs (start + k) → (negℤ (pos (2 ^ 43)) ≤ℤ z) × (z ≤ℤ pos (2 ^ 43))
+  pub so-far-small : (k : ℕ) (z : ℤ) → k ≤ degree → z ≡ worked by (degree - k) xs (start + k) → Within (2 ^ 43) z
   so-far-small k z l e =
       let e′ : start + k + (degree - k) + 1 ≡ start + degree + 1 = omega arith in
       let b = worked-small by xs kept (2 ^ 40) (degree - k) (start + k) (λ i h. small i (omega arith)) in
@@ -68,7 +67,7 @@ module _ (by : ℤ → ℤ) (kept : (p : ℤ) → Bound-kept p (by p)) (xs : Lis
     abbrev entry : ℤ
     entry = getD xs (start + (k - 1)) (pos 0)
 
-    product-small : (negℤ (pos (2 ^ 43)) ≤ℤ y) × (y ≤ℤ pos (2 ^ 43))
+    product-small : Within (2 ^ 43) y
     product-small =
         let b = so-far-small k z left was in
         let h = kept z (2 ^ 43) in
@@ -113,7 +112,7 @@ module _ (by : ℤ → ℤ) (kept : (p : ℤ) → Bound-kept p (by p)) (xs : Lis
   row-read y e =
       let b = worked-small by xs kept (2 ^ 40) degree start small in
       let m : suc degree * 2 ^ 40 ≤ 2 ^ 43 = omega arith in
-      let h : (negℤ (pos (2 ^ 43)) ≤ℤ worked by degree xs start) × (worked by degree xs start ≤ℤ pos (2 ^ 43)) = omega (arith, lin) in
+      let h : Within (2 ^ 43) (worked by degree xs start) = omega (arith, lin) in
       toZ-ofZ w64 y (fits (2 ^ 43) y (lit< tt) (rw e h)) ∙ e
 
 -- ---- tables
@@ -127,7 +126,7 @@ rows-fit rows n b h = omega (arith, mul-add rows n 1)
 
 -- one entry more
 pub one-more : (P : ℕ → ℤ) (out : List ℤ) (t : ℕ) (y : ℤ) → t < length out → y ≡ P t
-  → ((j : ℕ) → j < t → getD out j (pos 0) ≡ P j) → (j : ℕ) → j < t + 1 → getD (set out t y) j (pos 0) ≡ P j
+    → ((j : ℕ) → j < t → getD out j (pos 0) ≡ P j) → (j : ℕ) → j < t + 1 → getD (set out t y) j (pos 0) ≡ P j
 one-more P out t y l e h =
     below-more (λ j. getD (set out t y) j (pos 0) ≡ P j) t
     (λ j b. let n : j ≢ t = omega arith in getD-set-other out t j y (pos 0) n ∙ h j b)
@@ -135,7 +134,7 @@ one-more P out t y l e h =
 
 -- numbers of at most b give numbers of at most 8 × b
 pub table-small : (by : ℤ → ℤ) → ((p : ℤ) → Bound-kept p (by p)) → (b rows n : ℕ) (xs ys : List ℤ) → n ≤ 7 → Small b (rows * (n + 1)) xs
-  → ((t : ℕ) → t < rows → getD ys t (pos 0) ≡ worked by n xs (t * (n + 1))) → Small (8 * b) rows ys
+    → ((t : ℕ) → t < rows → getD ys t (pos 0) ≡ worked by n xs (t * (n + 1))) → Small (8 * b) rows ys
 table-small by kept b rows n xs ys few small is t h =
     let e = row-end t rows n h in
     let w = worked-small by xs kept b n (t * (n + 1)) (λ k l. small k (omega arith)) in
@@ -146,6 +145,6 @@ pub small-weaker : (b b′ n : ℕ) (xs : List ℤ) → b ≤ b′ → Small b n
 small-weaker b b′ n xs l h k i = omega (arith, lin, h k i)
 
 -- the numbers of 32 bits
-pub narrow-small : (z : ℤ) → mag z < 2 ^ 31 → (negℤ (pos (2 ^ 31)) ≤ℤ z) × (z ≤ℤ pos (2 ^ 31))
+pub narrow-small : (z : ℤ) → mag z < 2 ^ 31 → Within (2 ^ 31) z
 narrow-small (pos n) h = omega (arith, lin)
 narrow-small (negsuc n) h = omega (arith, lin)

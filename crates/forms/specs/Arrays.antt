@@ -6,7 +6,7 @@
 --     Turned n b g xs ys the first input, of degree n, becomes the last: xs is n + 1 blocks of b numbers each, ys is b rows of n + 1
 --                        numbers each, and row s of ys is g of the numbers at s in the blocks of xs
 -- Assumes nothing.
-use Prim.Native.Nat.{ℕ, suc, _+_, _*_, _<_, _≤_}
+use Prim.Native.Nat.{ℕ, _+_, _*_, _<_, _≤_}
 use mathlib.Core.Path.{_≡_}
 use mathlib.Core.List.{List}
 use lib.IntN.{ℤ, pos}

@@ -2,10 +2,12 @@ pub mod Rules
 pub mod Pairs
 pub mod Choose
 pub mod Halving
-pub mod Tables
 pub mod Polynomial
+pub mod Tables
+pub mod Bernstein
 pub mod Sides
 pub mod Arrays
-pub mod Bernstein
+pub mod Stages
 pub mod Nested
 pub mod Worked
+pub mod Samples

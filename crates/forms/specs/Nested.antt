@@ -4,7 +4,9 @@
 --     Factors            for each input a range of factors, from from/2^depth to to/2^depth
 --     low-by g v         the low end's product by the factor of input v
 --     high-by g v        the high end's
---     over by m          the mapping's coefficients worked off, input v by `by v`: the results are the next input's coefficients
+--     after-3 by m i j   input 3 worked off: the coefficient for input 2, with exponents i and j of inputs 1 and 2
+--     after-2 by m i     input 2 worked off too: the coefficient for input 1, with exponent i
+--     over by m          all inputs worked off, input v by `by v`
 --     nested-low m g     the low end over these factors
 --     nested-high m g    the high end
 --     cell-factors s     a cell's factors: each input from place to place + 1
@@ -47,9 +49,14 @@ low-by g v p = low-times p (g .from v) (g .to v) (g .power v)
 abbrev pub high-by : Factors → ℕ → ℤ → ℤ
 high-by g v r = high-times r (g .from v) (g .to v) (g .power v)
 
+abbrev pub after-3 : (ℕ → ℤ → ℤ) → Mapping → ℕ → ℕ → ℤ
+after-3 by m i j = horner (by 2) (degree m 2) (λ k. coefficient m i j k)
+
+abbrev pub after-2 : (ℕ → ℤ → ℤ) → Mapping → ℕ → ℤ
+after-2 by m i = horner (by 1) (degree m 1) (λ j. after-3 by m i j)
+
 abbrev pub over : (ℕ → ℤ → ℤ) → Mapping → ℤ
-over by m =
-    horner (by 0) (degree m 0) (λ i. horner (by 1) (degree m 1) (λ j. horner (by 2) (degree m 2) (λ k. coefficient m i j k)))
+over by m = horner (by 0) (degree m 0) (λ i. after-2 by m i)
 
 unfoldable pub nested-low : Mapping → Factors → ℤ
 nested-low m g = over (low-by g) m

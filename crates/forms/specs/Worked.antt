@@ -5,7 +5,8 @@
 --     low-of f           the low end's product by a factor
 --     high-of f          the high end's
 --     worked by n xs s   the n + 1 numbers of xs from place s on, by Horner's rule
---     Small b n xs       each of the first n numbers of xs is at most b in size
+--     Within b z         the number z is at most b in size
+--     Small b n xs       so is each of the first n numbers of xs
 -- Assumes nothing.
 use Prim.Native.Nat.{ℕ, _+_, _<_}
 use mathlib.Core.List.{List}
@@ -40,5 +41,8 @@ high-of f r = high-times r (f .low) (f .high) (f .depth)
 unfoldable pub worked : (ℤ → ℤ) → ℕ → List ℤ → ℕ → ℤ
 worked by n xs s = horner by n (λ k. getD xs (s + k) (pos 0))
 
+abbrev pub Within : ℕ → ℤ → Type 0
+Within b z = (negℤ (pos b) ≤ℤ z) × (z ≤ℤ pos b)
+
 abbrev pub Small : ℕ → ℕ → List ℤ → Type 0
-Small b n xs = (k : ℕ) → k < n → (negℤ (pos b) ≤ℤ getD xs k (pos 0)) × (getD xs k (pos 0) ≤ℤ pos b)
+Small b n xs = (k : ℕ) → k < n → Within b (getD xs k (pos 0))

@@ -9,7 +9,8 @@ use crate::whole::first_table;
 use mapping::cell::Cell;
 use mapping::mapping::Mapping;
 ghost use mathlib.Core.Path.{_≡_};
-ghost use Rattle.forms.specs.Bernstein.{bernstein, end};
+ghost use Rattle.forms.specs.Bernstein.{bernstein};
+ghost use Rattle.forms.specs.Stages.{end};
 
 /// Encloses by the least and the greatest Bernstein coefficient on the cell.
 #[derive(Clone, Copy)]

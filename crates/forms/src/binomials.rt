@@ -21,7 +21,7 @@ const BINOMIALS: [u64; 64] = [
     1, 7, 21, 35, 35, 21, 7, 1,
 ];
 
-pub fn factorial(n: usize) -> u64
+pub(crate) fn factorial(n: usize) -> u64
     requires { ⌜ n < 8 ⌝ }
     ensures value { λ r. ⌜ r ≡ factorial n ⌝ }
     ensures small { λ r. ⌜ r ≤ 5040 ⌝ }
@@ -30,7 +30,7 @@ pub fn factorial(n: usize) -> u64
 }
 
 /// The binomial coefficient "n over i": 0 where `i` is above `n`.
-pub fn choose(n: usize, i: usize) -> u64
+pub(crate) fn choose(n: usize, i: usize) -> u64
     requires upper { ⌜ n < 8 ⌝ }
     requires lower { ⌜ i < 8 ⌝ }
     ensures value { λ r. ⌜ r ≡ choose n i ⌝ }
@@ -40,7 +40,7 @@ pub fn choose(n: usize, i: usize) -> u64
 }
 
 /// What a coefficient with exponent `i` counts for in the Bernstein coefficient at `j`, times n!.
-pub fn weight(n: usize, j: usize, i: usize) -> u64
+pub(crate) fn weight(n: usize, j: usize, i: usize) -> u64
     requires degree { ⌜ n < 8 ⌝ }
     requires place { ⌜ j ≤ n ⌝ }
     requires exponent { ⌜ i ≤ n ⌝ }

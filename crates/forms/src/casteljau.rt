@@ -2,7 +2,6 @@
 use crate::side::Side;
 ghost use mathlib.Core.Path.{_≡_};
 ghost use Prim.Native.Nat.{ℕ, _+_, _<_, _≤_};
-ghost use lib.ListN.{length};
 ghost use Rattle.forms.specs.Arrays.{numbers, Holds};
 ghost use Rattle.forms.specs.Halving.{kept, deep};
 ghost use Rattle.forms.specs.Sides.{mean};
@@ -36,7 +35,7 @@ fn halve(row: [i64; 8], n: usize, digit: u16, side: Side) -> [i64; 8]
 }
 
 /// The row of degree `n` on the part with this depth and place: a halving for each digit of the place, the most significant first.
-pub fn halve_to(mut row: [i64; 8], n: usize, depth: u8, place: u16, side: Side) -> [i64; 8]
+pub(crate) fn halve_to(mut row: [i64; 8], n: usize, depth: u8, place: u16, side: Side) -> [i64; 8]
     requires degree { ⌜ n < 8 ⌝ }
     requires shallow { ⌜ depth ≤ 10 ⌝ }
     ensures value { λ r. ⌜ Holds n r (deep (kept (mean side) n) depth place (numbers row)) ⌝ }

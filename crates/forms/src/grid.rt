@@ -5,9 +5,8 @@ use mapping::cell::Cell;
 use mapping::mapping::Mapping;
 ghost use mathlib.Core.Path.{_≡_};
 ghost use Prim.Native.Nat.{ℕ, _+_, _-_, _*_, _<_, _≤_};
-ghost use lib.ListN.{length};
 ghost use Rattle.forms.specs.Arrays.{numbers, grid, Fills, Turned};
-ghost use Rattle.forms.specs.Bernstein.{on-cell};
+ghost use Rattle.forms.specs.Stages.{on-cell};
 ghost use Rattle.forms.specs.Halving.{kept, deep};
 ghost use Rattle.forms.specs.Sides.{mean, extreme};
 
@@ -38,7 +37,14 @@ fn put_row(mut table: [i64; 64], start: usize, row: [i64; 8], n: usize) -> [i64;
 }
 
 /// Halves a table of `n + 1` blocks of `rows` numbers each along its first input, and makes that input the last.
-fn halve_first(table: [i64; 64], n: usize, rows: usize, depth: u8, place: u16, side: Side) -> [i64; 64]
+fn halve_first(
+    table: [i64; 64],
+    n: usize,
+    rows: usize,
+    depth: u8,
+    place: u16,
+    side: Side,
+) -> [i64; 64]
     requires degree { ⌜ n < 8 ⌝ }
     requires small { ⌜ (n + 1) * rows ≤ 64 ⌝ }
     requires shallow { ⌜ depth ≤ 10 ⌝ }
@@ -55,7 +61,7 @@ fn halve_first(table: [i64; 64], n: usize, rows: usize, depth: u8, place: u16, s
 }
 
 /// The table on the cell: halved by all digits of the place of input 1, then of input 2, then of input 3.
-pub fn halve_table(table: [i64; 64], m: &Mapping, c: &Cell, side: Side) -> [i64; 64]
+pub(crate) fn halve_table(table: [i64; 64], m: &Mapping, c: &Cell, side: Side) -> [i64; 64]
     ensures value { λ r. ⌜ Fills (now (m .entry) .degrees) r (on-cell side (now (m .entry)) (now (c .entry)) (grid (now (m .entry) .degrees) table)) ⌝ }
 {
     let [first, second, third] = m.degrees;
@@ -68,7 +74,7 @@ pub fn halve_table(table: [i64; 64], m: &Mapping, c: &Cell, side: Side) -> [i64;
 }
 
 /// The outermost of the first `count` numbers of the table.
-pub fn extreme(table: [i64; 64], count: usize, side: Side) -> i64
+pub(crate) fn extreme(table: [i64; 64], count: usize, side: Side) -> i64
     requires some { ⌜ 0 < count ⌝ }
     requires within { ⌜ count ≤ 64 ⌝ }
     ensures value { λ r. ⌜ r ≡ extreme side (count - 1) (numbers table) ⌝ }

@@ -5,6 +5,7 @@ pub mod bernstein;
 pub mod form;
 pub mod nested;
 pub mod pair;
+pub mod samples;
 
 // What the nested form is made of.
 mod table;

@@ -37,7 +37,14 @@ pub fn corner(m: &Mapping, c: &Cell, corner: u8) -> (i64, i64)
     ensures value { λ r. ⌜ r ≡ corner-ends (now (m .entry)) (now (c .entry) .shape) corner ⌝ }
     ensures encloses { λ r. ⌜ At-corner (now (m .entry)) (now (c .entry) .shape) corner r ⌝ }
 {
-    ends(m, [point(c, 0, corner), point(c, 1, corner), point(c, 2, corner)])
+    ends(
+        m,
+        [
+            point(c, 0, corner),
+            point(c, 1, corner),
+            point(c, 2, corner),
+        ],
+    )
 }
 
 /// The cell's factor of input `v + 1`, from its lower end to its upper one.

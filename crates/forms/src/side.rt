@@ -8,14 +8,14 @@ ghost use Rattle.forms.specs.Sides.{quotient, mean, outer};
 
 /// The low side rounds everything down and ends in the least number, the high side rounds up and ends in the greatest.
 #[derive(Clone, Copy)]
-pub enum Side {
+pub(crate) enum Side {
     Low,
     High,
 }
 
 impl Side {
     /// `z / d`, rounded to this side.
-    pub fn quotient(self, z: i64, d: NonZeroU64) -> i64
+    pub(crate) fn quotient(self, z: i64, d: NonZeroU64) -> i64
         ensures value { λ r. ⌜ r ≡ quotient self z (of-u64 d) ⌝ }
     {
         match self {
@@ -25,7 +25,7 @@ impl Side {
     }
 
     /// Half the sum of `x` and `y`, rounded to this side.
-    pub fn mean(self, x: i64, y: i64) -> i64
+    pub(crate) fn mean(self, x: i64, y: i64) -> i64
         ensures value { λ r. ⌜ r ≡ mean self x y ⌝ }
     {
         let sum = x as i128 + y as i128;
@@ -36,7 +36,7 @@ impl Side {
     }
 
     /// The outer of two numbers: the smaller on the low side, the larger on the high side.
-    pub fn outer(self, x: i64, y: i64) -> i64
+    pub(crate) fn outer(self, x: i64, y: i64) -> i64
         ensures value { λ r. ⌜ r ≡ outer self x y ⌝ }
     {
         match self {

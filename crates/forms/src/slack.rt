@@ -10,7 +10,8 @@ ghost use lib.IntN.{pos};
 ghost use lib.Signed.{_≤ℤ_};
 ghost use Rattle.mapping.specs.Cells.{depth};
 ghost use Rattle.mapping.specs.Values.{degree};
-ghost use Rattle.forms.specs.Bernstein.{bernstein, bends};
+ghost use Rattle.forms.specs.Bernstein.{bernstein};
+ghost use Rattle.forms.specs.Stages.{bends};
 ghost use Rattle.forms.specs.Tables.{loss};
 
 /// The sum of |a| · i(i - 1) over all coefficients a, with i the exponent of input `v`.
@@ -44,7 +45,7 @@ fn loss(m: &Mapping, c: &Cell, v: usize) -> i64
 }
 
 /// How far the ends of the enclosure may lie from values of the mapping on the cell.
-pub fn slack(m: &Mapping, c: &Cell) -> i64
+pub(crate) fn slack(m: &Mapping, c: &Cell) -> i64
     ensures value { λ r. ⌜ r ≡ bernstein (now (m .entry)) (now (c .entry)) .slack ⌝ }
 {
     1 + (loss(m, c, 0) + (loss(m, c, 1) + loss(m, c, 2)))

@@ -28,10 +28,14 @@ impl Table {
         for (k, a) in m.coefficients.iter().enumerate() {
             exact[k] = i64::from(*a);
         }
-        Table { low: exact, high: exact }
+        Table {
+            low: exact,
+            high: exact,
+        }
     }
 
-    /// Row `t` of the table for each `t` below `rows`, worked off: rows are `degree + 1` long.
+    /// Row `t` of the table for each `t` below `rows`, worked off: rows are `degree + 1` long. Numbers of at most 2^40 in size leave room for
+    /// every product and sum.
     pub(crate) fn work_off(&self, rows: usize, degree: usize, by: Factor) -> Table
         requires room { ⌜ rows * (degree + 1) ≤ 64 ⌝ }
         requires degree { ⌜ degree ≤ 7 ⌝ }

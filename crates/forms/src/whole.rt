@@ -10,7 +10,7 @@ ghost use lib.ListN.{getD};
 ghost use Rattle.std.specs.NonZero.{of-u64};
 ghost use Rattle.mapping.specs.Values.{degree, coefficient};
 ghost use Rattle.forms.specs.Arrays.{Fills};
-ghost use Rattle.forms.specs.Bernstein.{on-box, Within, share-at};
+ghost use Rattle.forms.specs.Stages.{on-box, Within, share-at};
 ghost use Rattle.forms.specs.Choose.{factorial};
 ghost use Rattle.forms.specs.Tables.{numerator};
 
@@ -52,7 +52,7 @@ fn numerator(m: &Mapping, place: [usize; 3]) -> i64
 }
 
 /// The Bernstein coefficients on the box, each rounded once to the side, in the order of the coefficients.
-pub fn first_table(m: &Mapping, side: Side) -> [i64; 64]
+pub(crate) fn first_table(m: &Mapping, side: Side) -> [i64; 64]
     ensures value { λ r. ⌜ Fills (now (m .entry) .degrees) r (on-box side (now (m .entry))) ⌝ }
 {
     let denominator = denominator(m);

@@ -23,8 +23,8 @@ use Rattle.job.specs.declared.line.Line.the-variants.{Range}
 module _ (m : Mapping) (steps : List (Option Call)) (t : Transcript) (told : Transcribed ask m (valid steps) t) where
   -- the opening line, those of the steps and the last one
   pub lines-are : (first both all : List Line) (last : Line)
-    → first ≡ Range (t .opening) ∷ [] → both ≡ first ++ merged steps (vec-items (t .replies)) → last ≡ last-line m (t .closed) → all ≡ both ++ (last ∷ [])
-    → all ≡ run-lines m steps
+      → first ≡ Range (t .opening) ∷ [] → both ≡ first ++ merged steps (vec-items (t .replies)) → last ≡ last-line m (t .closed) → all ≡ both ++ (last ∷ [])
+      → all ≡ run-lines m steps
   unfolding run-lines
   lines-are first both all last e f g h =
       h ∙ ap (λ x. both ++ (x ∷ [])) (g ∙ ap (last-line m) (told .closed))
@@ -37,9 +37,9 @@ module _ (m : Mapping) (steps : List (Option Call)) (t : Transcript) (told : Tra
   unfolding reports
   honest-run h =
       let e : seen-in t ≡ seen (report m (opened ask m)) (replies ask m (opened ask m) (valid steps)) (close m (after ask m (opened ask m) (valid steps))) =
-        ap (λ o. seen o (vec-items (t .replies)) (t .closed)) (told .opening)
-        ∙ ap (λ rs. seen (report m (opened ask m)) rs (t .closed)) (told .replies)
-        ∙ ap (seen (report m (opened ask m)) (replies ask m (opened ask m) (valid steps))) (told .closed) in
+      ap (λ o. seen o (vec-items (t .replies)) (t .closed)) (told .opening)
+      ∙ ap (λ rs. seen (report m (opened ask m)) rs (t .closed)) (told .replies)
+      ∙ ap (seen (report m (opened ask m)) (replies ask m (opened ask m) (valid steps))) (told .closed) in
       subst (Honest m) e h
 
 -- two facts of what was made, as one

@@ -43,7 +43,11 @@ pub(crate) fn last_line(m: &Mapping, closed: Closed) -> Line
 }
 
 /// Adds a line for each step: the next reply's, or a refusal where there is no call.
-pub(crate) fn add_lines(lines: &mut Vec<Line>, steps: &[Option<Call>], replies: &[Reply]) -> Result<(), AllocError>
+pub(crate) fn add_lines(
+    lines: &mut Vec<Line>,
+    steps: &[Option<Call>],
+    replies: &[Reply],
+) -> Result<(), AllocError>
     ensures value { λ r. ⌜ (isOk r ≡ true → vec-items (now (lines .exit)) ≡ vec-items (now (lines .entry)) ++ merged (now (steps .entry)) (now (replies .entry))) ⌝ }
 {
     let mut next = 0;

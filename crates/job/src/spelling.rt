@@ -34,7 +34,12 @@ pub impl fmt::Display for Line as LineDisplay {
     fn fmt<W: fmt::Write>(&self, f: &mut fmt::Formatter<W>) -> fmt::Result {
         match *self {
             Line::Range(report) => {
-                let Report { low, high, slack, verdict } = report;
+                let Report {
+                    low,
+                    high,
+                    slack,
+                    verdict,
+                } = report;
                 let word = word(verdict);
                 write!(f, "range {low} {high} {slack} {word}")
             }

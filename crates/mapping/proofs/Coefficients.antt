@@ -30,8 +30,8 @@ back-from-bits v z f e = ap (λ y. toZ w32 (ofZ w32 y)) e ∙ ap (toZ w32) (ofZ-
 pub values-more : (xs : List ℤ) (k v : ℕ) (x : ℤ) (u t w : List ℕ) → k < length xs → v < 2 ^ 32 → x ≡ toZ w32 v → u ≡ value-bits (take k xs) ++ t → t ≡ spell 32 v ++ w → u ≡ value-bits (take (k + 1) (set xs k x)) ++ w
 values-more xs k v x u t w l f is e g =
     let more : value-bits (take (k + 1) (set xs k x)) ≡ value-bits (take k xs) ++ spell 32 v =
-      ap value-bits (take-more-set xs k x l) ∙ value-bits-push (take k xs) x
-      ∙ ap (λ n. value-bits (take k xs) ++ spell 32 n) (ap (ofZ w32) is ∙ ofZ-toZ w32 v f) in
+    ap value-bits (take-more-set xs k x l) ∙ value-bits-push (take k xs) x
+    ∙ ap (λ n. value-bits (take k xs) ++ spell 32 n) (ap (ofZ w32) is ∙ ofZ-toZ w32 v f) in
     e ∙ ap (λ r. value-bits (take k xs) ++ r) g
     ∙ sym (append-assoc (value-bits (take k xs)) (spell 32 v) w)
     ∙ ap (λ r. r ++ w) (sym more)
@@ -57,9 +57,9 @@ pub each-set : (P : ℤ → Type 0) (xs : List ℤ) (k : ℕ) (x : ℤ) → P x 
 each-set P xs k x p h j =
     ⊎-elim
     (λ (l : k < length xs).
-      ⊎-elim
-      (λ (e : j ≡ k). subst P (sym (ap (λ i. getD (set xs k x) i (pos 0)) e ∙ getD-set-same xs k x (pos 0) l)) p)
-      (λ (n : j ≡ k → ⊥). subst P (sym (getD-set-other xs k j x (pos 0) n)) (h j))
-      (cases-eq j k))
+    ⊎-elim
+    (λ (e : j ≡ k). subst P (sym (ap (λ i. getD (set xs k x) i (pos 0)) e ∙ getD-set-same xs k x (pos 0) l)) p)
+    (λ (n : j ≡ k → ⊥). subst P (sym (getD-set-other xs k j x (pos 0) n)) (h j))
+    (cases-eq j k))
     (λ (l : length xs ≤ k). subst P (ap (λ ys. getD ys j (pos 0)) (sym (set-past xs k x l))) (h j))
     (cases-lt k (length xs))

@@ -19,17 +19,17 @@ valid-cell c = record { depths3 = c .depths3; places3 = c .places3; shallow = c 
 
 -- a fact of depth and place at each input, after input v was given new ones
 each-input : (P : ℕ → ℕ → ℕ → Type 0) (s : Shape) (v side : ℕ) → Valid s → v < 3
-  → P v (depth s v + 1) (2 * place s v + side)
-  → ((w : ℕ) → w < 3 → P w (depth s w) (place s w))
-  → (w : ℕ) → w < 3 → P w (depth (half s v side) w) (place (half s v side) w)
+    → P v (depth s v + 1) (2 * place s v + side)
+    → ((w : ℕ) → w < 3 → P w (depth s w) (place s w))
+    → (w : ℕ) → w < 3 → P w (depth (half s v side) w) (place (half s v side) w)
 each-input P s v side ok l here others w h =
     ⊎-elim
     (λ (e : w ≡ v).
-      let d : depth (half s v side) v ≡ depth s v + 1 = getD-set-same (s .depths) v (depth s v + 1) 0 (omega (arith, ok .depths3)) in
-      let q : place (half s v side) v ≡ 2 * place s v + side = getD-set-same (s .places) v (2 * place s v + side) 0 (omega (arith, ok .places3)) in
-      subst (λ (u : ℕ). P u (depth (half s v side) u) (place (half s v side) u)) (sym e) (subst₂ (P v) (sym d) (sym q) here))
+    let d : depth (half s v side) v ≡ depth s v + 1 = getD-set-same (s .depths) v (depth s v + 1) 0 (omega (arith, ok .depths3)) in
+    let q : place (half s v side) v ≡ 2 * place s v + side = getD-set-same (s .places) v (2 * place s v + side) 0 (omega (arith, ok .places3)) in
+    subst (λ (u : ℕ). P u (depth (half s v side) u) (place (half s v side) u)) (sym e) (subst₂ (P v) (sym d) (sym q) here))
     (λ (n : w ≡ v → ⊥).
-      subst₂ (P w) (sym (getD-set-other (s .depths) v w (depth s v + 1) 0 n)) (sym (getD-set-other (s .places) v w (2 * place s v + side) 0 n)) (others w h))
+    subst₂ (P w) (sym (getD-set-other (s .depths) v w (depth s v + 1) 0 n)) (sym (getD-set-other (s .places) v w (2 * place s v + side) 0 n)) (others w h))
     (cases-eq w v)
 
 pub half-valid : (s : Shape) (v side : ℕ) → Valid s → v < 3 → side < 2 → depth s v < 10 → Valid (half s v side)

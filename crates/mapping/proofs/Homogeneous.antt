@@ -37,14 +37,14 @@ share-stretched c n i u D h =
 
 -- a sum of three sums, each term times c
 scale-sums : (n₁ n₂ n₃ : ℕ) (c : ℤ) (f g : ℕ → ℕ → ℕ → ℤ)
-  → ((i j k : ℕ) → i < suc n₁ → j < suc n₂ → k < suc n₃ → g i j k ≡ c *ℤ f i j k)
-  → sum (suc n₁) (λ i. sum (suc n₂) (λ j. sum (suc n₃) (λ k. g i j k))) ≡ c *ℤ sum (suc n₁) (λ i. sum (suc n₂) (λ j. sum (suc n₃) (λ k. f i j k)))
+    → ((i j k : ℕ) → i < suc n₁ → j < suc n₂ → k < suc n₃ → g i j k ≡ c *ℤ f i j k)
+    → sum (suc n₁) (λ i. sum (suc n₂) (λ j. sum (suc n₃) (λ k. g i j k))) ≡ c *ℤ sum (suc n₁) (λ i. sum (suc n₂) (λ j. sum (suc n₃) (λ k. f i j k)))
 scale-sums n₁ n₂ n₃ c f g e =
     sum-ext (suc n₁) (λ i. sum (suc n₂) (λ j. sum (suc n₃) (λ k. g i j k))) (λ i. c *ℤ sum (suc n₂) (λ j. sum (suc n₃) (λ k. f i j k))) (λ i hi.
-      sum-ext (suc n₂) (λ j. sum (suc n₃) (λ k. g i j k)) (λ j. c *ℤ sum (suc n₃) (λ k. f i j k)) (λ j hj.
-        sum-ext (suc n₃) (λ k. g i j k) (λ k. c *ℤ f i j k) (λ k hk. e i j k hi hj hk)
-        ∙ sum-scale (suc n₃) c (λ k. f i j k))
-      ∙ sum-scale (suc n₂) c (λ j. sum (suc n₃) (λ k. f i j k)))
+    sum-ext (suc n₂) (λ j. sum (suc n₃) (λ k. g i j k)) (λ j. c *ℤ sum (suc n₃) (λ k. f i j k)) (λ j hj.
+    sum-ext (suc n₃) (λ k. g i j k) (λ k. c *ℤ f i j k) (λ k hk. e i j k hi hj hk)
+    ∙ sum-scale (suc n₃) c (λ k. f i j k))
+    ∙ sum-scale (suc n₂) c (λ j. sum (suc n₃) (λ k. f i j k)))
     ∙ sum-scale (suc n₁) c (λ i. sum (suc n₂) (λ j. sum (suc n₃) (λ k. f i j k)))
 
 -- the numbers of each input, with those of input v times c
@@ -75,22 +75,22 @@ module _ (m : Mapping) (c : ℕ) (u D : ℕ → ℕ) where
   unfolding scaled poly terms
   homogeneous zero h =
       scale-sums (degree m 0) (degree m 1) (degree m 2) (pos (c ^ degree m 0)) terms _ (λ i j k hi hj hk.
-        moved (coefficient m i j k) (c ^ degree m 0) _ (parts i j k)
-        (ap (λ x. x * (part 1 j * part 2 k)) (larger 0 i hi) ∙ out (c ^ degree m 0) (part 0 i) (part 1 j * part 2 k)))
+      moved (coefficient m i j k) (c ^ degree m 0) _ (parts i j k)
+      (ap (λ x. x * (part 1 j * part 2 k)) (larger 0 i hi) ∙ out (c ^ degree m 0) (part 0 i) (part 1 j * part 2 k)))
     where
       out : (s x y : ℕ) → s * x * y ≡ s * (x * y)
       out s x y = omega arith
   homogeneous (suc zero) h =
       scale-sums (degree m 0) (degree m 1) (degree m 2) (pos (c ^ degree m 1)) terms _ (λ i j k hi hj hk.
-        moved (coefficient m i j k) (c ^ degree m 1) _ (parts i j k)
-        (ap (λ x. part 0 i * (x * part 2 k)) (larger 1 j hj) ∙ out (c ^ degree m 1) (part 0 i) (part 1 j) (part 2 k)))
+      moved (coefficient m i j k) (c ^ degree m 1) _ (parts i j k)
+      (ap (λ x. part 0 i * (x * part 2 k)) (larger 1 j hj) ∙ out (c ^ degree m 1) (part 0 i) (part 1 j) (part 2 k)))
     where
       out : (s x y z : ℕ) → x * (s * y * z) ≡ s * (x * (y * z))
       out s x y z = omega arith
   homogeneous (suc (suc zero)) h =
       scale-sums (degree m 0) (degree m 1) (degree m 2) (pos (c ^ degree m 2)) terms _ (λ i j k hi hj hk.
-        moved (coefficient m i j k) (c ^ degree m 2) _ (parts i j k)
-        (ap (λ x. part 0 i * (part 1 j * x)) (larger 2 k hk) ∙ out (c ^ degree m 2) (part 0 i) (part 1 j) (part 2 k)))
+      moved (coefficient m i j k) (c ^ degree m 2) _ (parts i j k)
+      (ap (λ x. part 0 i * (part 1 j * x)) (larger 2 k hk) ∙ out (c ^ degree m 2) (part 0 i) (part 1 j) (part 2 k)))
     where
       out : (s x y z : ℕ) → x * (y * (s * z)) ≡ s * (x * (y * z))
       out s x y z = omega arith

@@ -34,9 +34,10 @@ field-here bs rest p k v h e =
 -- and what stands behind it
 field-next : (bs x rest : List ℕ) (p k v : ℕ) → v < 2 ^ k → drop p (bits-of bs) ≡ (spell k v ++ x) ++ rest → (field bs p k ≡ v) × (drop (p + k) (bits-of bs) ≡ x ++ rest)
 field-next bs x rest p k v h e =
-    let e′ : drop p (bits-of bs) ≡ spell k v ++ (x ++ rest) = e ∙ append-assoc (spell k v) x rest in
-    (field-here bs (x ++ rest) p k v h e′
-    , sym (drop-drop k p (bits-of bs)) ∙ ap (drop k) e′ ∙ drop-at (spell k v) (x ++ rest) k (length-spell k v))
+    let e′ : drop p (bits-of bs) ≡ spell k v ++ (x ++ rest) = e ∙ append-assoc (spell k v) x rest in (
+      field-here bs (x ++ rest) p k v h e′,
+      sym (drop-drop k p (bits-of bs)) ∙ ap (drop k) e′ ∙ drop-at (spell k v) (x ++ rest) k (length-spell k v),
+    )
 
 -- two headers with the same numbers
 pub record Same (g h : Header) : Type 0 where
@@ -123,5 +124,5 @@ pub header-decides : (bs rest : List ℕ) (h : Header) → Fits-header h → bit
 unfolding record-fault
 header-decides bs rest h fits e =
     let long : ltb (length bs) 3 ≡ false =
-      le-ltb (length bs) 3 (omega (arith, length-bits-of bs, ap length e, length-append (header-bits h) rest, length-header h)) in
+    le-ltb (length bs) 3 (omega (arith, length-bits-of bs, ap length e, length-append (header-bits h) rest, length-header h)) in
     rw long (ap first-listed (same-faults (header-of bs) h (length bs) (header-found bs rest h fits e)))

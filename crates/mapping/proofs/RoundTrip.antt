@@ -101,15 +101,15 @@ module _ (m : Mapping) where
     unfolding record-fault
     record-accepted =
         let ok : first-listed (header-faults (header-for m) (length bs)) ≡ None =
-          accepted-to (header-for m) (length bs) (record {
-            format = refl;
-            inputs = m .some;
-            absent₂ = λ h. m .absent 1 h (lit< tt);
-            absent₃ = λ h. m .absent 2 h (lit< tt);
-            zeros = refl;
-            few = m .small;
-            size = record-length;
-          }) in
+        accepted-to (header-for m) (length bs) (record {
+          format = refl;
+          inputs = m .some;
+          absent₂ = λ h. m .absent 1 h (lit< tt);
+          absent₃ = λ h. m .absent 2 h (lit< tt);
+          zeros = refl;
+          few = m .small;
+          size = record-length;
+        }) in
         let long : ltb (length bs) 3 ≡ false = le-ltb (length bs) 3 (omega (arith, record-length)) in
         rw long (ap first-listed (same-faults (header-of bs) (header-for m) (length bs) header-at) ∙ ok)
 
@@ -162,19 +162,19 @@ module _ (a b : Mapping) (bs : List ℕ) (e : bits-of bs ≡ record-bits a) (f :
       (each-taken (λ x. mag x < 2 ^ 31) (terms (b .degrees)) (b .coefficients) (lit< tt) (b .narrow))
       (length-used a ∙ same-terms′ ∙ sym (length-used b))
       (same-fronts (header-bits (header-for a)) (header-bits (header-for b)) (value-bits (used a)) (value-bits (used b))
-        (length-header (header-for a) ∙ sym (length-header (header-for b))) (sym e ∙ f) .1)
+      (length-header (header-for a) ∙ sym (length-header (header-for b))) (sym e ∙ f) .1)
 
   same-coefficients : a .coefficients ≡ b .coefficients
   unfolding used
   same-coefficients =
       ext-getD (pos 0) (a .coefficients) (b .coefficients) (a .table ∙ sym (b .table))
       (λ k h. ⊎-elim
-        (λ (l : k < terms (a .degrees)).
-          sym (getD-take (terms (a .degrees)) (a .coefficients) k (pos 0) l)
-          ∙ ap (λ xs. getD xs k (pos 0)) same-used
-          ∙ getD-take (terms (b .degrees)) (b .coefficients) k (pos 0) (omega (arith, same-terms′)))
-        (λ (l : terms (a .degrees) ≤ k). a .unused k l ∙ sym (b .unused k (omega (arith, same-terms′))))
-        (cases-lt k (terms (a .degrees))))
+      (λ (l : k < terms (a .degrees)).
+      sym (getD-take (terms (a .degrees)) (a .coefficients) k (pos 0) l)
+      ∙ ap (λ xs. getD xs k (pos 0)) same-used
+      ∙ getD-take (terms (b .degrees)) (b .coefficients) k (pos 0) (omega (arith, same-terms′)))
+      (λ (l : terms (a .degrees) ≤ k). a .unused k l ∙ sym (b .unused k (omega (arith, same-terms′))))
+      (cases-lt k (terms (a .degrees))))
 
   -- bytes are the record of at most one mapping
   pub one-mapping : a ≡ b
@@ -188,8 +188,8 @@ pub record-parsed : (m : Mapping) (h : Header) (bs rest : List ℕ) → Same (he
 unfolding record-bits used
 record-parsed m h bs rest s e l =
     let bits : bits-of bs ≡ record-bits m ++ rest =
-      e ∙ ap (λ r. r ++ (value-bits (used m) ++ rest)) (sym (same-bits (header-for m) h s))
-      ∙ sym (append-assoc (header-bits (header-for m)) (value-bits (used m)) rest) in
+    e ∙ ap (λ r. r ++ (value-bits (used m) ++ rest)) (sym (same-bits (header-for m) h s))
+    ∙ sym (append-assoc (header-bits (header-for m)) (value-bits (used m)) rest) in
     let none : rest ≡ [] =
-      nil-from-length rest (omega (arith, length-bits-of bs, ap length bits, length-append (record-bits m) rest, length-record-bits m)) in
+    nil-from-length rest (omega (arith, length-bits-of bs, ap length bits, length-append (record-bits m) rest, length-record-bits m)) in
     bits ∙ ap (λ r. record-bits m ++ r) none ∙ append-nil (record-bits m)

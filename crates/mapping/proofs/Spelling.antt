@@ -42,7 +42,7 @@ spell-append zero b x y h = ap (λ n. spell n (x * 2 ^ b + y)) (zero-add b) ∙ 
 spell-append (suc a) b x y h =
     let v = x * 2 ^ b + y in
     let e : v / 2 ^ (a + b) ≡ x / 2 ^ a =
-      ap (λ n. v / 2 ^ n) (omega arith) ∙ sym (shr-shr v b a) ∙ ap (λ n. n / 2 ^ a) (shr-high x b y h) in
+    ap (λ n. v / 2 ^ n) (omega arith) ∙ sym (shr-shr v b a) ∙ ap (λ n. n / 2 ^ a) (shr-high x b y h) in
     ap (λ n. spell n v) (suc-add a b)
     ∙ ap (λ n. (n % 2) ∷ spell (a + b) v) e
     ∙ ap (λ r. (x / 2 ^ a % 2) ∷ r) (spell-append a b x y h)
@@ -65,9 +65,10 @@ joined-field k x part u v w e f = e ∙ ap (λ r. spell k x ++ r) f ∙ sym (app
 
 -- two lists that begin with parts of one length are equal part by part
 pub same-fronts : {A : Type 0} (a b x y : List A) → length a ≡ length b → a ++ x ≡ b ++ y → (a ≡ b) × (x ≡ y)
-same-fronts a b x y l e =
-    (sym (take-at a x (length a) refl) ∙ ap (take (length a)) e ∙ take-at b y (length a) (sym l)
-    , sym (drop-at a x (length a) refl) ∙ ap (drop (length a)) e ∙ drop-at b y (length a) (sym l))
+same-fronts a b x y l e = (
+  sym (take-at a x (length a) refl) ∙ ap (take (length a)) e ∙ take-at b y (length a) (sym l),
+  sym (drop-at a x (length a) refl) ∙ ap (drop (length a)) e ∙ drop-at b y (length a) (sym l),
+)
 
 -- two lists that begin with a field of k bits have the same number there, and go on alike
 pub same-fields : (k x y : ℕ) (r s : List ℕ) → x < 2 ^ k → y < 2 ^ k → spell k x ++ r ≡ spell k y ++ s → (x ≡ y) × (r ≡ s)

@@ -19,9 +19,14 @@ fits-steps : (x : ℤ) (k : ℕ) → SFits w32 x → k ≤ 32768 → SFits w64 (
 fits-steps x k f h =
     subst (SFits w64) (*ℤ-comm (pos k) x)
     (fits-in w64 (pos k *ℤ x)
-      (omega (arith, scale-is k x, fits-out w32 x f,
-        mul-le k (up x) 32768 (down x + 2147483648) h (omega (arith, fits-out w32 x f)),
-        mul-le k (down x) 32768 (up x + 2147483648) h (omega (arith, fits-out w32 x f)), one-side x)))
+    (omega (
+      arith,
+      scale-is k x,
+      fits-out w32 x f,
+      mul-le k (up x) 32768 (down x + 2147483648) h (omega (arith, fits-out w32 x f)),
+      mul-le k (down x) 32768 (up x + 2147483648) h (omega (arith, fits-out w32 x f)),
+      one-side x,
+    )))
   where
     one-side : (z : ℤ) → (up z ≡ 0) ⊎ (down z ≡ 0)
     one-side (pos n) = inr refl

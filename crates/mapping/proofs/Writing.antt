@@ -33,8 +33,8 @@ four-bytes v = ap (λ x. bits-of (v / 16777216 % 256 ∷ (v / 65536 % 256 ∷ (v
 
 -- the header's number: each field above those that follow it
 pub header-number : (s n₁ n₂ n₃ k q : ℕ) → s < 4 → n₁ < 8 → n₂ < 8 → n₃ < 8 → k < 8 → q < 16
-  → spell 24 (((((((1 * 4 + s) * 8 + n₁) * 8 + n₂) * 8 + n₃) * 8 + k) * 16 + q) * 4)
-  ≡ spell 4 1 ++ (spell 2 s ++ (spell 3 n₁ ++ (spell 3 n₂ ++ (spell 3 n₃ ++ (spell 3 k ++ (spell 4 q ++ spell 2 0))))))
+    → spell 24 (((((((1 * 4 + s) * 8 + n₁) * 8 + n₂) * 8 + n₃) * 8 + k) * 16 + q) * 4)
+    ≡ spell 4 1 ++ (spell 2 s ++ (spell 3 n₁ ++ (spell 3 n₂ ++ (spell 3 n₃ ++ (spell 3 k ++ (spell 4 q ++ spell 2 0))))))
 header-number s n₁ n₂ n₃ k q hs h₁ h₂ h₃ hk hq =
     let w₁ = 1 * 4 + s in
     let w₂ = w₁ * 8 + n₁ in
@@ -62,22 +62,22 @@ drop-further m n xs ys l e =
 -- a buffer after one coefficient more, at the place behind those that were written
 module _ (start : List ℕ) (values : List ℤ) (k : ℕ) (out out′ bytes : List ℕ) (within : k < length values) (four : length bytes ≡ 4) where
   pub value-written : bits-of bytes ≡ spell 32 (ofZ w32 (getD values k (pos 0)))
-    → bits-of (take (3 + 4 * k) out) ≡ start ++ value-bits (take k values)
-    → take (3 + 4 * k + length bytes) out′ ≡ take (3 + 4 * k) out ++ bytes
-    → bits-of (take (3 + 4 * (k + 1)) out′) ≡ start ++ value-bits (take (k + 1) values)
+      → bits-of (take (3 + 4 * k) out) ≡ start ++ value-bits (take k values)
+      → take (3 + 4 * k + length bytes) out′ ≡ take (3 + 4 * k) out ++ bytes
+      → bits-of (take (3 + 4 * (k + 1)) out′) ≡ start ++ value-bits (take (k + 1) values)
   value-written bits e front =
       let x = getD values k (pos 0) in
       let at : 3 + 4 * (k + 1) ≡ 3 + 4 * k + length bytes = omega arith in
       let more : value-bits (take (k + 1) values) ≡ value-bits (take k values) ++ spell 32 (ofZ w32 x) =
-        ap value-bits (take-more values k (pos 0) within) ∙ value-bits-push (take k values) x in
+      ap value-bits (take-more values k (pos 0) within) ∙ value-bits-push (take k values) x in
       ap (λ n. bits-of (take n out′)) at ∙ ap bits-of front ∙ bits-of-append (take (3 + 4 * k) out) bytes
       ∙ ap (λ r. r ++ bits-of bytes) e ∙ ap (λ r. (start ++ value-bits (take k values)) ++ r) bits
       ∙ append-assoc start (value-bits (take k values)) (spell 32 (ofZ w32 x))
       ∙ ap (λ r. start ++ r) (sym more)
 
   pub rest-kept : (before : List ℕ) → drop (3 + 4 * k) out ≡ drop (3 + 4 * k) before
-    → drop (3 + 4 * k + length bytes) out′ ≡ drop (3 + 4 * k + length bytes) out
-    → drop (3 + 4 * (k + 1)) out′ ≡ drop (3 + 4 * (k + 1)) before
+      → drop (3 + 4 * k + length bytes) out′ ≡ drop (3 + 4 * k + length bytes) out
+      → drop (3 + 4 * (k + 1)) out′ ≡ drop (3 + 4 * (k + 1)) before
   rest-kept before e rest =
       let at : 3 + 4 * (k + 1) ≡ 3 + 4 * k + length bytes = omega arith in
       ap (λ n. drop n out′) at ∙ rest ∙ ap (λ n. drop n out) (sym at)
@@ -85,7 +85,7 @@ module _ (start : List ℕ) (values : List ℤ) (k : ℕ) (out out′ bytes : Li
 
 -- the whole record, from its two parts: what was written first, and what both leave
 module _ (m : Mapping) (n : ℕ) (is : n ≡ terms (m .degrees)) (before between after header : List ℕ)
-  (spelled : bits-of header ≡ header-bits (header-for m)) (three : length header ≡ 3) where
+    (spelled : bits-of header ≡ header-bits (header-for m)) (three : length header ≡ 3) where
   values : List ℤ
   values = take n (m .coefficients)
 
@@ -94,8 +94,8 @@ module _ (m : Mapping) (n : ℕ) (is : n ≡ terms (m .degrees)) (before between
   length-values = length-take-le n (m .coefficients) (omega (arith, m .small, m .table))
 
   pub record-written : take (length header) between ≡ header
-    → bits-of (take (3 + 4 * length (take n (m .coefficients))) after) ≡ bits-of (take 3 between) ++ value-bits (take n (m .coefficients))
-    → bits-of (take (3 + 4 * n) after) ≡ record-bits m
+      → bits-of (take (3 + 4 * length (take n (m .coefficients))) after) ≡ bits-of (take 3 between) ++ value-bits (take n (m .coefficients))
+      → bits-of (take (3 + 4 * n) after) ≡ record-bits m
   unfolding values record-bits
   record-written front bits =
       ap (λ k. bits-of (take (3 + 4 * k) after)) (sym length-values) ∙ bits
@@ -105,8 +105,8 @@ module _ (m : Mapping) (n : ℕ) (is : n ≡ terms (m .degrees)) (before between
       ∙ ap (λ k. header-bits (header-for m) ++ value-bits (take k (m .coefficients))) is
 
   pub rest-written : drop (length header) between ≡ drop (length header) before
-    → drop (3 + 4 * length (take n (m .coefficients))) after ≡ drop (3 + 4 * length (take n (m .coefficients))) between
-    → drop (3 + 4 * n) after ≡ drop (3 + 4 * n) before
+      → drop (3 + 4 * length (take n (m .coefficients))) after ≡ drop (3 + 4 * length (take n (m .coefficients))) between
+      → drop (3 + 4 * n) after ≡ drop (3 + 4 * n) before
   unfolding values
   rest-written first rest =
       ap (λ k. drop (3 + 4 * k) after) (sym length-values) ∙ rest ∙ ap (λ k. drop (3 + 4 * k) between) length-values

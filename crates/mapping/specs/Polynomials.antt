@@ -12,4 +12,4 @@ share n i u D = u ^ i * D ^ (n - i)
 unfoldable pub poly : ℕ → ℕ → ℕ → (ℕ → ℕ → ℕ → ℤ) → ℕ → ℕ → ℕ → ℕ → ℕ → ℕ → ℤ
 poly n₁ n₂ n₃ a u₁ D₁ u₂ D₂ u₃ D₃ =
     sum (suc n₁) (λ i. sum (suc n₂) (λ j. sum (suc n₃) (λ k.
-      a i j k *ℤ pos (share n₁ i u₁ D₁ * (share n₂ j u₂ D₂ * share n₃ k u₃ D₃)))))
+    a i j k *ℤ pos (share n₁ i u₁ D₁ * (share n₂ j u₂ D₂ * share n₃ k u₃ D₃)))))

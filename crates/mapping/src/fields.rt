@@ -19,6 +19,7 @@ pub(crate) const FORMAT: u8 = 1;
 
 /// Bytes of a header, and of a coefficient.
 pub(crate) const HEADER: usize = 3;
+
 pub(crate) const COEFFICIENT: usize = 4;
 
 impl Header {

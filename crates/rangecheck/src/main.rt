@@ -9,7 +9,9 @@ use std::io::Read;
 fn main(rt: LibcRuntime) -> Result<(), AnyError> {
     let heap = rt.alloc();
     let mut input = Vec::new(heap);
-    rt.stdin().take(MOST_INPUT as u64 + 1).read_to_end(&mut input)?;
+    rt.stdin()
+        .take(MOST_INPUT as u64 + 1)
+        .read_to_end(&mut input)?;
     for line in answer(heap, &input)?.iter() {
         println!(rt, "{line}")?;
     }

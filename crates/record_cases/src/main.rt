@@ -19,7 +19,10 @@ fn read_and_write(bytes: &[u8]) -> Outcome {
     }
     let mut buffer = [0xa5; 260];
     match write(&place, &mut buffer) {
-        Ok(size) => Outcome::Accepted(size, size < 260 && &buffer[0..size] == bytes && buffer[size] == 0xa5),
+        Ok(size) => Outcome::Accepted(
+            size,
+            size < 260 && &buffer[0..size] == bytes && buffer[size] == 0xa5,
+        ),
         Err(fault) => Outcome::Refused(fault.number()),
     }
 }
@@ -77,8 +80,18 @@ mod tests {
         check_eq(used.degrees, [1, 0, 0])?;
         check_eq(used.kind.number(), 3)?;
         check_eq(used.shift, 4)?;
-        check_eq((used.coefficients[0], used.coefficients[1], used.coefficients[2]), (1, -2, 0))?;
-        check_eq((used.register().low, used.register().high), (-524_288, 524_272))?;
+        check_eq(
+            (
+                used.coefficients[0],
+                used.coefficients[1],
+                used.coefficients[2],
+            ),
+            (1, -2, 0),
+        )?;
+        check_eq(
+            (used.register().low, used.register().high),
+            (-524_288, 524_272),
+        )?;
         check_eq(read(&FLAT, &mut used), Ok(()))?;
         let mut fresh = Mapping::new();
         check_eq(read(&FLAT, &mut fresh), Ok(()))?;
@@ -93,7 +106,10 @@ mod tests {
         let before = place;
         check_eq(read(&RAMP[0..10], &mut place), Err(RecordFault::Length))?;
         check_eq(&place, &before)?;
-        check_eq(read(&[0x24, 0x80, 0xd0], &mut place), Err(RecordFault::Format))?;
+        check_eq(
+            read(&[0x24, 0x80, 0xd0], &mut place),
+            Err(RecordFault::Format),
+        )?;
         check_eq(&place, &before)
     }
 

@@ -7,5 +7,7 @@ pub returns-in-Some : need.returns-in-Some
 returns-in-Some c = record { value = cell-of-shape (c .in-Some .cell) (c .args .shape) (c .in-Some .ensures tt .value) }
 
 pub returns-in-None : need.returns-in-None
-returns-in-None c = record { value =
-  same-cell (c .whole .result) whole (c .whole .ensures .value) ∙ sym (cell-of-not (c .args .shape) (c .in-None .ensures tt .value)) }
+returns-in-None c = record {
+  value =
+      same-cell (c .whole .result) whole (c .whole .ensures .value) ∙ sym (cell-of-not (c .args .shape) (c .in-None .ensures tt .value));
+}

@@ -1,3 +1,4 @@
+-- One end of the enclosure, from the stages that lead to it. Assumes nothing.
 use mathlib.Core.Path.{ap, _∙_}
 use Prim.Native.Nat.{_-_, _<_}
 use native.Mathlib.Omega.{arith}

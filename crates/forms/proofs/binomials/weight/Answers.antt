@@ -1,3 +1,4 @@
+-- A weight is the product of the table entries, and at most n!. Assumes nothing.
 use mathlib.Core.Path.{_≡_, ap₂}
 use Prim.Native.Nat.{_*_, _≤_}
 use native.Mathlib.Omega.{arith}

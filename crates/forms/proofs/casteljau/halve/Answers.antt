@@ -1,13 +1,13 @@
+-- A halving, round after round. Assumes nothing.
 use mathlib.Core.Path.{_≡_, refl, sym, ap, _∙_}
 use Prim.Native.Nat.{_+_, _<_}
 use native.Mathlib.Omega.{arith}
-use lib.IntN.{pos}
 use lib.ListN.{length, length-set}
 use mir.Syntax.{w64}
 use mir.Val.{SFits}
 use borrow.Author.Needs.{needs}
 use Rattle.std.proofs.shelf.Signed.{toZ-ofZ}
-use Rattle.forms.specs.Arrays.{numbers, Holds}
+use Rattle.forms.specs.Arrays.{numbers}
 use Rattle.forms.specs.Halving.{kept}
 use Rattle.forms.specs.Sides.{mean}
 use Rattle.forms.proofs.Loops.{upper-start, upper-more, upper-end, lower-start, lower-more}
@@ -26,10 +26,12 @@ loop-t-again c =
     let next = c .round-next .result in
     let fits : SFits w64 (numbers next 0) = search needs in
     let upper = upper-more f (c .args .n) r (c .loop-t .t) (c .loop-t .upper) next (c .loop-t-test .taken) (c .loop-t .inv .3) (c .round-next .ensures .new) (c .round-next .ensures .rest) in
-    let room : c .loop-t .t + 1 < length (c .loop-t .lower) = omega (arith, c .loop-t .inv .0) in
-    (simp length-set (c .loop-t .inv .0), search needs,
+    let room : c .loop-t .t + 1 < length (c .loop-t .lower) = omega (arith, c .loop-t .inv .0) in (
+      simp length-set (c .loop-t .inv .0),
+      search needs,
       lower-more f (c .args .n) r (c .loop-t .t) (c .loop-t .lower) next _ (c .loop-t-test .taken) room (c .loop-t .inv .2) upper (toZ-ofZ w64 _ fits),
-      upper)
+      upper,
+    )
 
 pub returns-then-digit-eq0 : need.returns-then-digit-eq0
 returns-then-digit-eq0 c k l =

@@ -1,4 +1,4 @@
-use Prim.Native.Nat.{ℕ, _≤_}
+-- After t rounds: the lower half up to place t, and the row of round t in place. Assumes nothing.
 use mathlib.Core.Path.{_≡_}
 use lib.ListN.{length}
 use Rattle.forms.specs.Arrays.{numbers, Holds}

@@ -1,3 +1,4 @@
+-- All digits, one halving after the other. Assumes nothing.
 use mathlib.Core.Path.{_≡_, sym, ap}
 use Prim.Native.Nat.{suc, _-_, _^_, _/_, _%_}
 use native.Mathlib.Omega.{arith}
@@ -15,10 +16,11 @@ loop-t-holds c =
 
 pub loop-t-again : need.loop-t-again
 loop-t-again c =
-    let e : c .args .depth - 1 - c .loop-t .t ≡ c .args .depth - suc (c .loop-t .t) = omega arith in
-    (search needs,
+    let e : c .args .depth - 1 - c .loop-t .t ≡ c .args .depth - suc (c .loop-t .t) = omega arith in (
+      search needs,
       digit-more (mean (c .args .side)) (c .args .n) (numbers (c .args .row)) (c .args .depth) (c .args .place) (c .loop-t .t) _ (c .loop-t .row) (c .halve-half .result)
-        (c .loop-t-test .taken) (ap (λ s. (c .args .place / 2 ^ s) % 2) e) (c .loop-t .inv .1) (c .halve-half .ensures))
+          (c .loop-t-test .taken) (ap (λ s. (c .args .place / 2 ^ s) % 2) e) (c .loop-t .inv .1) (c .halve-half .ensures),
+    )
 
 pub returns : need.returns
 returns c =

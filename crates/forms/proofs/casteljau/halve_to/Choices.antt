@@ -1,3 +1,4 @@
+-- The row after the first t digits. Assumes nothing.
 use Prim.Native.Nat.{_-_, _^_, _/_}
 use mathlib.Core.Path.{_≡_}
 use lib.ListN.{length}

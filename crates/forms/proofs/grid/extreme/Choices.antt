@@ -1,3 +1,4 @@
+-- The outermost of the first number and of those that the loop has passed. Assumes nothing.
 use mathlib.Core.Path.{_≡_}
 use mathlib.Core.List.{_∷_}
 use Rattle.forms.specs.Arrays.{numbers}

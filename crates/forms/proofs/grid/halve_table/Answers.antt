@@ -1,5 +1,5 @@
+-- Three turns bring the table back to its order. Assumes nothing.
 use borrow.Author.Needs.{needs}
-use native.Mathlib.Omega.{arith}
 use Rattle.mapping.specs.Cells.{depth, place}
 use Rattle.mapping.specs.Values.{degree}
 use Rattle.forms.specs.Sides.{mean}
@@ -30,6 +30,6 @@ returns c =
     let s = c .args .c .now .shape in
     record {
       value = turned-back (mean (c .args .side)) (degree m 0) (degree m 1) (degree m 2) (depth s 0) (place s 0) (depth s 1) (place s 1) (depth s 2) (place s 2)
-        (c .args .table) (c .halve-first-table .result) (c .halve-first-table-2 .result) (c .halve-first .result)
-        (c .halve-first-table .ensures) (c .halve-first-table-2 .ensures) (c .halve-first .ensures);
+          (c .args .table) (c .halve-first-table .result) (c .halve-first-table-2 .result) (c .halve-first .result)
+          (c .halve-first-table .ensures) (c .halve-first-table-2 .ensures) (c .halve-first .ensures);
     }

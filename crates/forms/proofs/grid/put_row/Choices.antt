@@ -1,3 +1,4 @@
+-- The row is written up to k, and nothing before start is touched. Assumes nothing.
 use Prim.Native.Nat.{ℕ, _+_, _<_}
 use mathlib.Core.Path.{_≡_}
 use lib.ListN.{length}

@@ -39,9 +39,9 @@ work-off-table-requires-3 c κs =
       room = omega (arith, m .low 0 (lit< tt));
       degree = m .low 0 (lit< tt);
       low = small-1 m (c .new .result .low) (c .new .ensures .low) (low-of f) (low-of-kept f) (c .work-off-table .result .low) (c .work-off-table .ensures .low)
-        (low-of g) (low-of-kept g) (c .work-off-table-2 .result .low) (c .work-off-table-2 .ensures .low);
+          (low-of g) (low-of-kept g) (c .work-off-table-2 .result .low) (c .work-off-table-2 .ensures .low);
       high = small-1 m (c .new .result .high) (c .new .ensures .high) (high-of f) (high-of-kept f) (c .work-off-table .result .high) (c .work-off-table .ensures .high)
-        (high-of g) (high-of-kept g) (c .work-off-table-2 .result .high) (c .work-off-table-2 .ensures .high);
+          (high-of g) (high-of-kept g) (c .work-off-table-2 .result .high) (c .work-off-table-2 .ensures .high);
     }
 
 pub returns : need.returns
@@ -56,11 +56,11 @@ returns c =
     let h-is : h ≡ getD (c .args .by) 0 no-factor = getD-default (c .args .by) 0 (c .index-by-0 .result) no-factor (omega arith) in
     record {
       low = worked-off m (c .new .result .low) (c .new .ensures .low) (low-of f) (low-of-kept f) (c .work-off-table .result .low) (c .work-off-table .ensures .low)
-        (low-of g) (low-of-kept g) (c .work-off-table-2 .result .low) (c .work-off-table-2 .ensures .low)
-        (low-of h) (low-of-kept h) (c .work-off-table-3 .result .low) (c .work-off-table-3 .ensures .low)
-        ∙ low-over m (c .args .by) h g f h-is g-is f-is;
+          (low-of g) (low-of-kept g) (c .work-off-table-2 .result .low) (c .work-off-table-2 .ensures .low)
+          (low-of h) (low-of-kept h) (c .work-off-table-3 .result .low) (c .work-off-table-3 .ensures .low)
+          ∙ low-over m (c .args .by) h g f h-is g-is f-is;
       high = worked-off m (c .new .result .high) (c .new .ensures .high) (high-of f) (high-of-kept f) (c .work-off-table .result .high) (c .work-off-table .ensures .high)
-        (high-of g) (high-of-kept g) (c .work-off-table-2 .result .high) (c .work-off-table-2 .ensures .high)
-        (high-of h) (high-of-kept h) (c .work-off-table-3 .result .high) (c .work-off-table-3 .ensures .high)
-        ∙ high-over m (c .args .by) h g f h-is g-is f-is;
+          (high-of g) (high-of-kept g) (c .work-off-table-2 .result .high) (c .work-off-table-2 .ensures .high)
+          (high-of h) (high-of-kept h) (c .work-off-table-3 .result .high) (c .work-off-table-3 .ensures .high)
+          ∙ high-over m (c .args .by) h g f h-is g-is f-is;
     }

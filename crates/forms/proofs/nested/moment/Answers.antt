@@ -55,5 +55,5 @@ pub returns : need.returns
 unfolding moment
 returns c =
     let all : c .loop-index .index ≡ terms (c .args .m .now .degrees) =
-      omega (arith, c .loop-index-test .left, c .loop-index .kept .index-end, length-take (c .terms .result) (c .args .m .now .coefficients), c .terms .ensures .value, c .args .m .now .small, c .args .m .now .table) in
+    omega (arith, c .loop-index-test .left, c .loop-index .kept .index-end, length-take (c .terms .result) (c .args .m .now .coefficients), c .terms .ensures .value, c .args .m .now .small, c .args .m .now .table) in
     record { value = c .loop-index .inv ∙ ap (λ n. sum n (λ t. pos (part (c .args .m .now) (c .args .v) t))) all }

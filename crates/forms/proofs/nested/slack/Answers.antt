@@ -26,7 +26,7 @@ returns c =
     let y = c .share-2 .ensures .value in
     let z = c .share-3 .ensures .value in
     let read = slack-read (c .terms .result) (c .share .result) (c .share-2 .result) (c .share-3 .result) (some c) (few c)
-      (c .share .ensures .least, c .share .ensures .most) (c .share-2 .ensures .least, c .share-2 .ensures .most) (c .share-3 .ensures .least, c .share-3 .ensures .most) in
+    (c .share .ensures .least, c .share .ensures .most) (c .share-2 .ensures .least, c .share-2 .ensures .most) (c .share-3 .ensures .least, c .share-3 .ensures .most) in
     let whole : pos (2 * (c .terms .result - 1)) +ℤ ((c .share .result +ℤ c .share-2 .result) +ℤ c .share-3 .result) ≡ nested-slack (c .args .m .now) (c .args .c .now .shape) =
-      λ i. pos (2 * (n i - 1)) +ℤ ((x i +ℤ y i) +ℤ z i) in
+    λ i. pos (2 * (n i - 1)) +ℤ ((x i +ℤ y i) +ℤ z i) in
     record { value = read ∙ whole }

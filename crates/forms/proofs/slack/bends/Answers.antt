@@ -1,3 +1,4 @@
+-- The sum over all coefficients, in 64 bits. Assumes nothing.
 use mathlib.Core.Path.{_≡_, sym, ap, subst, _∙_}
 use Prim.Native.Nat.{_+_, _-_, _*_, _^_, _<_}
 use native.Mathlib.Omega.{arith}
@@ -30,7 +31,7 @@ module _ (c : need.After-unsigned-abs) where
       let m = c .args .m .now in
       let t = c .loop-index .index in
       bend-word _ _ (c .unsigned-abs .result) (getD (c .exponents .result) (c .args .v) 0) _ (m .narrow t) (exponent-small m (c .args .v) (c .pre) t here)
-        (used-at m (c .terms .result) t (c .loop-index-test .taken)) (c .unsigned-abs .ensures .value) (ap (λ e. getD e (c .args .v) 0) (c .exponents .ensures .value))
+      (used-at m (c .terms .result) t (c .loop-index-test .taken)) (c .unsigned-abs .ensures .value) (ap (λ e. getD e (c .args .v) 0) (c .exponents .ensures .value))
 
   next-fits : SFits w64 (sum (c .loop-index .index + 1) (bend (c .args .m .now) (c .args .v)))
   next-fits = part-fits (c .args .m .now) (c .args .v) (c .pre) (c .loop-index .index + 1) (omega (arith, here))
@@ -41,12 +42,12 @@ mul-sum-in-loop-index c = subst (SFits w64) (sym (item c)) (bend-fits (c .args .
 pub add-sum : need.add-sum
 add-sum c =
     step-fits (bend (c .args .m .now) (c .args .v)) (c .loop-index .index) _ _ (c .loop-index .inv) (item c)
-      (bend-fits (c .args .m .now) (c .args .v) (c .pre) (c .loop-index .index) (here c)) (next-fits c)
+    (bend-fits (c .args .m .now) (c .args .v) (c .pre) (c .loop-index .index) (here c)) (next-fits c)
 
 pub loop-index-again : need.loop-index-again
 loop-index-again c =
     step-is (bend (c .args .m .now) (c .args .v)) (c .loop-index .index) _ _ (c .loop-index .inv) (item c)
-      (bend-fits (c .args .m .now) (c .args .v) (c .pre) (c .loop-index .index) (here c)) (next-fits c)
+    (bend-fits (c .args .m .now) (c .args .v) (c .pre) (c .loop-index .index) (here c)) (next-fits c)
 
 pub returns : need.returns
 returns c =

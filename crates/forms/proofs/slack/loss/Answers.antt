@@ -1,3 +1,4 @@
+-- Both cases of what an input adds to the slack. Assumes nothing.
 use mathlib.Core.Path.{_≡_, sym, ap, subst, _∙_}
 use Prim.Native.Nat.{_^_, _≤_}
 use native.Mathlib.Nat.{mul-le-mul}
@@ -9,7 +10,7 @@ use mir.Val.{SFits, toZ, ofZ}
 use Rattle.std.proofs.shelf.Signed.{toZ-ofZ}
 use Rattle.mapping.specs.Cells.{depth}
 use Rattle.mapping.specs.Values.{degree}
-use Rattle.forms.specs.Bernstein.{bends}
+use Rattle.forms.specs.Stages.{bends}
 use Rattle.forms.specs.Tables.{loss}
 use Rattle.forms.proofs.Extra.{pos-le}
 use Rattle.forms.proofs.Losses.{divisor-is, loss-most, loss-fits, loss-none, loss-word}
@@ -47,9 +48,9 @@ module _ (c : After-up-by) where
       let n = degree (c .args .m .now) (c .args .v) in
       let d = depth (c .args .c .now .shape) (c .args .v) in
       loss-word n d (c .in-Some .divisor .value) (bends (c .args .m .now) (c .args .v)) (c .bends .result) (c .up-by-power .result) (c .up-by .result)
-        (mul-le-mul low shallow) (c .in-Some .ensures tt ∙ divisor-is n d low shallow) (c .in-Some .divisor .ok)
-        (record { sfits = c .up-by-power .ok }) (record { sfits = c .up-by .ok }) (record { sfits = c .bends .ok })
-        (c .up-by-power .ensures .value) (c .up-by .ensures .value) (c .bends .ensures .value)
+      (mul-le-mul low shallow) (c .in-Some .ensures tt ∙ divisor-is n d low shallow) (c .in-Some .divisor .ok)
+      (record { sfits = c .up-by-power .ok }) (record { sfits = c .up-by .ok }) (record { sfits = c .bends .ok })
+      (c .up-by-power .ensures .value) (c .up-by .ensures .value) (c .bends .ensures .value)
 
   fits : SFits w64 (loss (degree (c .args .m .now) (c .args .v)) (depth (c .args .c .now .shape) (c .args .v)) (bends (c .args .m .now) (c .args .v)))
   fits = loss-fits (degree (c .args .m .now) (c .args .v)) (depth (c .args .c .now .shape) (c .args .v)) low shallow (bends (c .args .m .now) (c .args .v)) least most

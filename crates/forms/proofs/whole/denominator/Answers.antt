@@ -1,5 +1,5 @@
-use mathlib.Core.Path.{_≡_, sym, ap₂, subst}
-use Prim.Native.Nat.{ℕ, _*_, _<_}
+-- A product of factorials is not 0. Assumes nothing.
+use Prim.Native.Nat.{_<_}
 use native.Mathlib.Nat.{mul-pos}
 use native.Mathlib.Omega.{arith}
 use Rattle.mapping.specs.Values.{degree}

@@ -1,8 +1,9 @@
-use Prim.Native.Nat.{ℕ, _*_, _<_}
+-- The numbers before the index are those of the table. Assumes nothing.
+use Prim.Native.Nat.{ℕ, _<_}
 use mathlib.Core.Path.{_≡_}
 use lib.ListN.{length}
 use Rattle.forms.specs.Arrays.{numbers}
-use Rattle.forms.specs.Bernstein.{on-box}
+use Rattle.forms.specs.Stages.{on-box}
 use Rattle.forms.proofs.Places.{exponent}
 use Rattle.forms.proofs.whole.first_table.Given as given
 

@@ -1,3 +1,4 @@
+-- The sum over all coefficients, in 64 bits. Assumes nothing.
 use mathlib.Core.Path.{_≡_, sym, ap, subst, _∙_}
 use Prim.Native.Nat.{_+_, _<_, _≤_}
 use native.Mathlib.Omega.{arith}
@@ -9,8 +10,7 @@ use Rattle.arith.specs.Sums.{sum}
 use Rattle.arith.proofs.Sums.{sum-none}
 use Rattle.mapping.specs.Terms.{terms, exponents}
 use Rattle.mapping.specs.Values.{degree}
-use Rattle.forms.specs.Bernstein.{share-at}
-use Rattle.forms.proofs.Numerators.{term, exponents-within, share-small, term-word, step-fits, step-is, used, used-at, term-fits, part-fits, all-terms}
+use Rattle.forms.proofs.Numerators.{term, exponents-within, term-word, step-fits, step-is, used, used-at, term-fits, part-fits, all-terms}
 use Rattle.forms.proofs.whole.numerator.Needs as need
 
 pub loop-index-holds : need.loop-index-holds
@@ -31,8 +31,8 @@ module _ (c : need.After-weights) where
   item =
       let m = c .args .m .now in
       let t = c .loop-index .index in
-      term-word _ _ _ _ (m .narrow t) (share-small m (c .args .place) (exponents (m .degrees) t) (c .pre) (exponents-within m t here))
-        (used-at m (c .terms .result) t (c .loop-index-test .taken)) (c .weights .ensures .value ∙ ap (share-at m (c .args .place)) (c .exponents .ensures .value))
+      term-word m (c .args .place) (c .exponents .result) t _ (c .weights .result) (c .pre) here
+      (used-at m (c .terms .result) t (c .loop-index-test .taken)) (c .weights .ensures .value) (c .exponents .ensures .value)
 
 pub mul-sum : need.mul-sum
 mul-sum c = subst (SFits w64) (sym (item c)) (term-fits (c .args .m .now) (c .args .place) (c .pre) (c .loop-index .index) (here c))
@@ -43,12 +43,12 @@ next-fits c = part-fits (c .args .m .now) (c .args .place) (c .pre) (c .loop-ind
 pub add-sum : need.add-sum
 add-sum c =
     step-fits (term (c .args .m .now) (c .args .place)) (c .loop-index .index) _ _ (c .loop-index .inv) (item c)
-      (term-fits (c .args .m .now) (c .args .place) (c .pre) (c .loop-index .index) (here c)) (next-fits c)
+    (term-fits (c .args .m .now) (c .args .place) (c .pre) (c .loop-index .index) (here c)) (next-fits c)
 
 pub loop-index-again : need.loop-index-again
 loop-index-again c =
     step-is (term (c .args .m .now) (c .args .place)) (c .loop-index .index) _ _ (c .loop-index .inv) (item c)
-      (term-fits (c .args .m .now) (c .args .place) (c .pre) (c .loop-index .index) (here c)) (next-fits c)
+    (term-fits (c .args .m .now) (c .args .place) (c .pre) (c .loop-index .index) (here c)) (next-fits c)
 
 pub returns : need.returns
 returns c =

@@ -1,3 +1,4 @@
+-- The sum of the terms before the index. Assumes nothing.
 use mathlib.Core.Path.{_≡_}
 use Rattle.arith.specs.Sums.{sum}
 use Rattle.forms.proofs.Numerators.{term}

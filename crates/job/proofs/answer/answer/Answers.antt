@@ -24,16 +24,18 @@ returns c =
     let end = c .in-Ok-record-end .end in
     let bytes = take (length bs - end) (drop end bs) in
     let rest : bytes ≡ rest-part bs = take-rest bs end ∙ ap (λ n. drop n bs) (c .in-Ok-record-end .ensures tt .value .1) in
-    record { value =
-      made-both (c .run-lines .result)
-      (λ v. vec-items v ≡ run-lines m (steps-of bytes))
-      (λ v. Honest m (reports ask m (valid (steps-of bytes))))
-      (λ v. Answered bs (vec-items v))
-      (λ v e h. inr (record {
-        mapping = m;
-        accepted = loaded .0;
-        held = loaded .1;
-        lines = e ∙ ap (λ r. run-lines m (steps-of r)) rest;
-        honest = subst (λ r. Honest m (reports ask m (valid (steps-of r)))) rest h;
-      }))
-      (c .run-lines .ensures .value) (c .run-lines .ensures .honest) }
+    record {
+      value =
+          made-both (c .run-lines .result)
+          (λ v. vec-items v ≡ run-lines m (steps-of bytes))
+          (λ v. Honest m (reports ask m (valid (steps-of bytes))))
+          (λ v. Answered bs (vec-items v))
+          (λ v e h. inr (record {
+            mapping = m;
+            accepted = loaded .0;
+            held = loaded .1;
+            lines = e ∙ ap (λ r. run-lines m (steps-of r)) rest;
+            honest = subst (λ r. Honest m (reports ask m (valid (steps-of r)))) rest h;
+          }))
+          (c .run-lines .ensures .value) (c .run-lines .ensures .honest);
+    }

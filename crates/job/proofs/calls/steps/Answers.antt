@@ -13,13 +13,14 @@ loop-at-again c =
     let bs = c .args .bytes .now in
     let i = c .loop-at .at in
     let fits : i + 3 ≤ length bs = omega arith in
-    let before = vec-items (c .loop-at .steps) in
-    (fits
-    , ap (λ xs. xs ++ steps-of (drop (i + 3) bs)) (c .in-Continue-push .ensures tt .items)
-      ∙ pushed-on before (c .call-of .result) (steps-of (drop (i + 3) bs))
-      ∙ ap (λ x. before ++ (x ∷ steps-of (drop (i + 3) bs))) (c .call-of .ensures .value)
-      ∙ ap (λ r. before ++ r) (sym (three-more bs i fits))
-      ∙ c .loop-at .inv .1)
+    let before = vec-items (c .loop-at .steps) in (
+      fits,
+      ap (λ xs. xs ++ steps-of (drop (i + 3) bs)) (c .in-Continue-push .ensures tt .items)
+          ∙ pushed-on before (c .call-of .result) (steps-of (drop (i + 3) bs))
+          ∙ ap (λ x. before ++ (x ∷ steps-of (drop (i + 3) bs))) (c .call-of .ensures .value)
+          ∙ ap (λ r. before ++ r) (sym (three-more bs i fits))
+          ∙ c .loop-at .inv .1,
+    )
 
 pub returns : need.returns
 returns c =

@@ -18,24 +18,26 @@ loop-step-again c =
     let before = vec-items (c .loop-step .calls) in
     let more = drop-more steps i None (c .loop-step-test .taken) in
     elim (c .match-step .came) [
-      in-Some·in-Continue-push w ↦
-        ap (λ v. vec-items v ++ valid rest) (w .calls-is)
-        ∙ ap (λ xs. xs ++ valid rest) (w .in-Continue-push .ensures tt .items)
-        ∙ call-joins before (w .in-Some .call) rest
-        ∙ ap (λ s. before ++ valid (s ∷ rest)) (sym (w .in-Some .is))
-        ∙ ap (λ r. before ++ valid r) (sym more)
-        ∙ c .loop-step .inv
+      | in-Some·in-Continue-push w ↦
+          ap (λ v. vec-items v ++ valid rest) (w .calls-is)
+          ∙ ap (λ xs. xs ++ valid rest) (w .in-Continue-push .ensures tt .items)
+          ∙ call-joins before (w .in-Some .call) rest
+          ∙ ap (λ s. before ++ valid (s ∷ rest)) (sym (w .in-Some .is))
+          ∙ ap (λ r. before ++ valid r) (sym more)
+          ∙ c .loop-step .inv
       | in-None w ↦
-        ap (λ v. vec-items v ++ valid rest) (w .calls-is)
-        ∙ ap (λ s. before ++ valid (s ∷ rest)) (sym (w .in-None .is))
-        ∙ ap (λ r. before ++ valid r) (sym more)
-        ∙ c .loop-step .inv
+          ap (λ v. vec-items v ++ valid rest) (w .calls-is)
+          ∙ ap (λ s. before ++ valid (s ∷ rest)) (sym (w .in-None .is))
+          ∙ ap (λ r. before ++ valid r) (sym more)
+          ∙ c .loop-step .inv
     ]
 
 pub returns : need.returns
 returns c =
     let steps = c .args .steps .now in
-    record { value =
-      sym (append-nil (vec-items (c .loop-step .calls)))
-      ∙ ap (λ r. vec-items (c .loop-step .calls) ++ valid r) (sym (drop-all (c .loop-step .step-index) steps (c .loop-step-test .left)))
-      ∙ c .loop-step .inv }
+    record {
+      value =
+          sym (append-nil (vec-items (c .loop-step .calls)))
+          ∙ ap (λ r. vec-items (c .loop-step .calls) ++ valid r) (sym (drop-all (c .loop-step .step-index) steps (c .loop-step-test .left)))
+          ∙ c .loop-step .inv;
+    }

@@ -19,12 +19,14 @@ returns-then-next-replies c =
     let i = c .loop-step .step-index in
     let j = c .loop-step .next in
     let before = vec-items (c .loop-step .lines) in
-    record { value = λ _.
-      sym (no-replies-left before (c .in-Some .field-0) (drop (i + 1) steps))
-      ∙ ap (λ r. before ++ merged (Some (c .in-Some .field-0) ∷ drop (i + 1) steps) r) (sym (drop-all j replies (c .if-next-replies .taken)))
-      ∙ ap (λ s. before ++ merged (s ∷ drop (i + 1) steps) (drop j replies)) (sym (c .in-Some .is))
-      ∙ ap (λ r. before ++ merged r (drop j replies)) (sym (drop-more steps i None (c .loop-step-test .taken)))
-      ∙ c .loop-step .inv .1 }
+    record {
+      value = λ _.
+          sym (no-replies-left before (c .in-Some .field-0) (drop (i + 1) steps))
+          ∙ ap (λ r. before ++ merged (Some (c .in-Some .field-0) ∷ drop (i + 1) steps) r) (sym (drop-all j replies (c .if-next-replies .taken)))
+          ∙ ap (λ s. before ++ merged (s ∷ drop (i + 1) steps) (drop j replies)) (sym (c .in-Some .is))
+          ∙ ap (λ r. before ++ merged r (drop j replies)) (sym (drop-more steps i None (c .loop-step-test .taken)))
+          ∙ c .loop-step .inv .1;
+    }
 
 pub loop-step-again : need.loop-step-again
 loop-step-again c =
@@ -36,33 +38,37 @@ loop-step-again c =
     let before = vec-items (c .loop-step .lines) in
     let more = drop-more steps i None (c .loop-step-test .taken) in
     elim (c .match-step .came) [
-      in-None·in-Continue-push w ↦
-        (omega (arith, w .next-is, c .loop-step .inv .0)
-        , ap (λ v. vec-items v ++ merged rest (drop (c .match-step .next) replies)) (w .lines-is)
-          ∙ ap (λ n. vec-items (w .push .last .self) ++ merged rest (drop n replies)) (w .next-is)
-          ∙ ap (λ xs. xs ++ merged rest (drop j replies)) (w .in-Continue-push .ensures tt .items)
-          ∙ refusal-joins before rest (drop j replies)
-          ∙ ap (λ s. before ++ merged (s ∷ rest) (drop j replies)) (sym (w .in-None .is))
-          ∙ ap (λ r. before ++ merged r (drop j replies)) (sym more)
-          ∙ c .loop-step .inv .1)
-      | in-Some·else-next-replies·in-Continue-push-2 w ↦
-        (omega (arith, w .next-is, w .if-next-replies .left)
-        , ap (λ v. vec-items v ++ merged rest (drop (c .match-step .next) replies)) (w .lines-is)
-          ∙ ap (λ n. vec-items (w .push-in-Some .last .self) ++ merged rest (drop n replies)) (w .next-is)
-          ∙ ap (λ xs. xs ++ merged rest (drop (j + 1) replies)) (w .in-Continue-push-2 .ensures tt .items)
-          ∙ ap (λ x. (before ++ (x ∷ [])) ++ merged rest (drop (j + 1) replies)) (w .line-of .ensures .value)
-          ∙ line-joins before (w .in-Some .field-0) rest (getD replies j (Halved 0)) (drop (j + 1) replies)
-          ∙ ap (λ r. before ++ merged (Some (w .in-Some .field-0) ∷ rest) r) (sym (drop-more replies j (Halved 0) (w .if-next-replies .left)))
-          ∙ ap (λ s. before ++ merged (s ∷ rest) (drop j replies)) (sym (w .in-Some .is))
-          ∙ ap (λ r. before ++ merged r (drop j replies)) (sym more)
-          ∙ c .loop-step .inv .1)
+      | in-None·in-Continue-push w ↦ (
+        omega (arith, w .next-is, c .loop-step .inv .0),
+        ap (λ v. vec-items v ++ merged rest (drop (c .match-step .next) replies)) (w .lines-is)
+            ∙ ap (λ n. vec-items (w .push .last .self) ++ merged rest (drop n replies)) (w .next-is)
+            ∙ ap (λ xs. xs ++ merged rest (drop j replies)) (w .in-Continue-push .ensures tt .items)
+            ∙ refusal-joins before rest (drop j replies)
+            ∙ ap (λ s. before ++ merged (s ∷ rest) (drop j replies)) (sym (w .in-None .is))
+            ∙ ap (λ r. before ++ merged r (drop j replies)) (sym more)
+            ∙ c .loop-step .inv .1,
+      )
+      | in-Some·else-next-replies·in-Continue-push-2 w ↦ (
+        omega (arith, w .next-is, w .if-next-replies .left),
+        ap (λ v. vec-items v ++ merged rest (drop (c .match-step .next) replies)) (w .lines-is)
+            ∙ ap (λ n. vec-items (w .push-in-Some .last .self) ++ merged rest (drop n replies)) (w .next-is)
+            ∙ ap (λ xs. xs ++ merged rest (drop (j + 1) replies)) (w .in-Continue-push-2 .ensures tt .items)
+            ∙ ap (λ x. (before ++ (x ∷ [])) ++ merged rest (drop (j + 1) replies)) (w .line-of .ensures .value)
+            ∙ line-joins before (w .in-Some .field-0) rest (getD replies j (Halved 0)) (drop (j + 1) replies)
+            ∙ ap (λ r. before ++ merged (Some (w .in-Some .field-0) ∷ rest) r) (sym (drop-more replies j (Halved 0) (w .if-next-replies .left)))
+            ∙ ap (λ s. before ++ merged (s ∷ rest) (drop j replies)) (sym (w .in-Some .is))
+            ∙ ap (λ r. before ++ merged r (drop j replies)) (sym more)
+            ∙ c .loop-step .inv .1,
+      )
     ]
 
 pub returns : need.returns
 returns c =
     let steps = c .args .steps .now in
     let before = vec-items (c .loop-step .lines) in
-    record { value = λ _.
-      sym (no-steps-left before (drop (c .loop-step .next) (c .args .replies .now)))
-      ∙ ap (λ r. before ++ merged r (drop (c .loop-step .next) (c .args .replies .now))) (sym (drop-all (c .loop-step .step-index) steps (c .loop-step-test .left)))
-      ∙ c .loop-step .inv .1 }
+    record {
+      value = λ _.
+          sym (no-steps-left before (drop (c .loop-step .next) (c .args .replies .now)))
+          ∙ ap (λ r. before ++ merged r (drop (c .loop-step .next) (c .args .replies .now))) (sym (drop-all (c .loop-step .step-index) steps (c .loop-step-test .left)))
+          ∙ c .loop-step .inv .1;
+    }

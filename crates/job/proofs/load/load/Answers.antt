@@ -28,7 +28,7 @@ returns-in-Break-read c =
     let p = err-from-errBy (c .from-residual-in-Break-read .result) (c .from-residual-in-Break-read .ensures .1) in
     let f = c .in-Break-read .field-0 .0 in
     let refused : record-fault (record-part bs) ≡ Some f =
-      sym (ap record-fault (part-is bs end (found .1))) ∙ refused-from tt (record-fault (take (end - 2) (drop 2 bs))) f (sym (c .in-Break-read .ensures tt .value)) in
+    sym (ap record-fault (part-is bs end (found .1))) ∙ refused-from tt (record-fault (take (end - 2) (drop 2 bs))) f (sym (c .in-Break-read .ensures tt .value)) in
     record { value = subst (Loaded bs) (sym (p .1 ∙ ap Err (p .2))) (record-decides bs (found .0) ∙ ap (mapped Record) refused) }
 
 pub returns : need.returns
@@ -38,5 +38,5 @@ returns c =
     let found = c .in-Continue-end .ensures tt .value in
     let got = c .in-Continue-read .ensures tt in
     let passed : record-fault (record-part bs) ≡ None =
-      sym (ap record-fault (part-is bs end (found .1))) ∙ passed-from tt tt (record-fault (take (end - 2) (drop 2 bs))) (sym (got .value)) in
+    sym (ap record-fault (part-is bs end (found .1))) ∙ passed-from tt tt (record-fault (take (end - 2) (drop 2 bs))) (sym (got .value)) in
     record { value = (record-decides bs (found .0) ∙ ap (mapped Record) passed, sym (ap bits-of (part-is bs end (found .1))) ∙ got .after) }

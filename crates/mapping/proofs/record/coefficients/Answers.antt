@@ -24,9 +24,10 @@ loop-k-again c =
     let got = c .in-Continue-take .ensures tt .value in
     let x = toZ w32 (ofZ w32 (c .cast-signed .result)) in
     let is : x ≡ toZ w32 v = back-from-bits v (c .cast-signed .result) (got .0) (c .cast-signed .ensures) in
-    let room : c .loop-k .k < length (c .loop-k .values) = omega arith in
-    (length-set (c .loop-k .values) (c .loop-k .k) x ∙ inv .0
-    , values-more (c .loop-k .values) (c .loop-k .k) v x (unread (c .args .bits .now)) (unread (c .loop-k .bits)) (unread (c .take .last .self)) room (got .0) is (inv .1) (got .1)
-    , omega (arith, inv .2, got .2)
-    , (λ j h. let ne : j ≢ c .loop-k .k = omega arith in getD-set-other (c .loop-k .values) (c .loop-k .k) j x (pos 0) ne ∙ inv .3 j (omega arith))
-    , each-set (λ y. mag y < 2 ^ 31) (c .loop-k .values) (c .loop-k .k) x (narrow v x is) (inv .4))
+    let room : c .loop-k .k < length (c .loop-k .values) = omega arith in (
+      length-set (c .loop-k .values) (c .loop-k .k) x ∙ inv .0,
+      values-more (c .loop-k .values) (c .loop-k .k) v x (unread (c .args .bits .now)) (unread (c .loop-k .bits)) (unread (c .take .last .self)) room (got .0) is (inv .1) (got .1),
+      omega (arith, inv .2, got .2),
+      (λ j h. let ne : j ≢ c .loop-k .k = omega arith in getD-set-other (c .loop-k .values) (c .loop-k .k) j x (pos 0) ne ∙ inv .3 j (omega arith)),
+      each-set (λ y. mag y < 2 ^ 31) (c .loop-k .values) (c .loop-k .k) x (narrow v x is) (inv .4),
+    )

@@ -54,18 +54,21 @@ returns c =
     let passed = passed-from tt tt _ (sym (c .in-Continue-check .ensures tt .value)) in
     let a = accepted-from h (length bs) passed in
     let values : rest ≡ value-bits (take (terms (h .degrees)) (c .in-Continue-values .values)) ++ unread (c .coefficients .last .bits) =
-      c .in-Continue-values .ensures tt .value .0 ∙ ap (λ n. value-bits (take n (c .in-Continue-values .values)) ++ unread (c .coefficients .last .bits)) (c .count-terms .ensures .value) in
-    record { value =
-      (header-decides bs rest h (got .0) bits ∙ passed
-      , record-parsed _ h bs (unread (c .coefficients .last .bits))
-        (record {
-          format = sym (a .format);
-          inputs = refl;
-          degree₁ = refl;
-          degree₂ = refl;
-          degree₃ = refl;
-          kind = c .in-Some .ensures tt .value;
-          shift = refl;
-          zeros = sym (a .zeros);
-        })
-        (bits ∙ ap (λ r. header-bits h ++ r) values) (a .size)) }
+    c .in-Continue-values .ensures tt .value .0 ∙ ap (λ n. value-bits (take n (c .in-Continue-values .values)) ++ unread (c .coefficients .last .bits)) (c .count-terms .ensures .value) in
+    record {
+      value = (
+        header-decides bs rest h (got .0) bits ∙ passed,
+        record-parsed _ h bs (unread (c .coefficients .last .bits))
+            (record {
+              format = sym (a .format);
+              inputs = refl;
+              degree₁ = refl;
+              degree₂ = refl;
+              degree₃ = refl;
+              kind = c .in-Some .ensures tt .value;
+              shift = refl;
+              zeros = sym (a .zeros);
+            })
+            (bits ∙ ap (λ r. header-bits h ++ r) values) (a .size),
+      );
+    }

@@ -20,9 +20,9 @@ returns-in-Break-place c =
       value = is ∙ sym (ap (outcome tt) refused);
       after = subst (Filled bs (c .args .place .now) (c .args .place .now)) (sym is) refl;
       back = λ m e.
-        let accepted : record-fault bs ≡ None = record-accepted m bs e in
-        let z : _≡_ {A = ℕ} 0 1 = cc in
-        absurd (omega arith);
+          let accepted : record-fault bs ≡ None = record-accepted m bs e in
+          let z : _≡_ {A = ℕ} 0 1 = cc in
+          absurd (omega arith);
     }
 
 pub returns : need.returns

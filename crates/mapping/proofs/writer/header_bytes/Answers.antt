@@ -19,10 +19,10 @@ returns c =
     let word = ((((((1 * 4 + m .inputs) * 8 + getD (m .degrees) 0 0) * 8 + getD (m .degrees) 1 0) * 8 + getD (m .degrees) 2 0) * 8 + k) * 16 + m .shift) * 4 in
     record {
       bits =
-        ap (λ bs. bits-of (getD bs 1 0 ∷ (getD bs 2 0 ∷ (getD bs 3 0 ∷ [])))) (c .to-be-bytes .ensures)
-        ∙ three-bytes word
-        ∙ header-number (m .inputs) (getD (m .degrees) 0 0) (getD (m .degrees) 1 0) (getD (m .degrees) 2 0) k (m .shift)
+          ap (λ bs. bits-of (getD bs 1 0 ∷ (getD bs 2 0 ∷ (getD bs 3 0 ∷ [])))) (c .to-be-bytes .ensures)
+          ∙ three-bytes word
+          ∙ header-number (m .inputs) (getD (m .degrees) 0 0) (getD (m .degrees) 1 0) (getD (m .degrees) 2 0) k (m .shift)
           (fits .inputs) (fits .degree₁) (fits .degree₂) (fits .degree₃) (omega (arith, fits .kind)) (fits .shift)
-        ∙ ap (λ x. header-bits (record { format = 1; inputs = m .inputs; degrees = m .degrees; kind = x; shift = m .shift; zeros = 0 })) is;
+          ∙ ap (λ x. header-bits (record { format = 1; inputs = m .inputs; degrees = m .degrees; kind = x; shift = m .shift; zeros = 0 })) is;
       len = refl;
     }

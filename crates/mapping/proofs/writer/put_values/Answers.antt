@@ -26,10 +26,11 @@ loop-k-again c =
     let bytes = c .to-be-bytes .result in
     let fits : SFits w32 x = search needs in
     let spelled : bits-of bytes ≡ spell 32 (ofZ w32 x) =
-      ap bits-of (c .to-be-bytes .ensures) ∙ four-bytes (ofZ w32 (toZ w32 (ofZ w32 x))) ∙ ap (λ z. spell 32 (ofZ w32 z)) (toZ-ofZ w32 x fits) in
-    let four : length bytes ≡ 4 = ap length (c .to-be-bytes .ensures) in
-    (value-written (bits-of (take 3 (c .args .out .now))) values k (c .loop-k .out) (c .put .last .out) bytes (c .loop-k-test .taken) four spelled (c .loop-k .inv .0) (c .put .ensures .front)
-    , rest-kept (bits-of (take 3 (c .args .out .now))) values k (c .loop-k .out) (c .put .last .out) bytes (c .loop-k-test .taken) four (c .args .out .now) (c .loop-k .inv .1) (c .put .ensures .rest))
+    ap bits-of (c .to-be-bytes .ensures) ∙ four-bytes (ofZ w32 (toZ w32 (ofZ w32 x))) ∙ ap (λ z. spell 32 (ofZ w32 z)) (toZ-ofZ w32 x fits) in
+    let four : length bytes ≡ 4 = ap length (c .to-be-bytes .ensures) in (
+      value-written (bits-of (take 3 (c .args .out .now))) values k (c .loop-k .out) (c .put .last .out) bytes (c .loop-k-test .taken) four spelled (c .loop-k .inv .0) (c .put .ensures .front),
+      rest-kept (bits-of (take 3 (c .args .out .now))) values k (c .loop-k .out) (c .put .last .out) bytes (c .loop-k-test .taken) four (c .args .out .now) (c .loop-k .inv .1) (c .put .ensures .rest),
+    )
 
 pub returns : need.returns
 returns c =
@@ -37,9 +38,9 @@ returns c =
     let all : length values ≡ c .loop-k .k = omega arith in
     record {
       bits =
-        ap (λ n. bits-of (take (3 + 4 * n) (c .loop-k .out))) all ∙ c .loop-k .inv .0
-        ∙ ap (λ vs. bits-of (take 3 (c .args .out .now)) ++ value-bits vs) (take-all (c .loop-k .k) values (c .loop-k-test .left));
+          ap (λ n. bits-of (take (3 + 4 * n) (c .loop-k .out))) all ∙ c .loop-k .inv .0
+          ∙ ap (λ vs. bits-of (take 3 (c .args .out .now)) ++ value-bits vs) (take-all (c .loop-k .k) values (c .loop-k-test .left));
       rest =
-        ap (λ n. drop (3 + 4 * n) (c .loop-k .out)) all ∙ c .loop-k .inv .1
-        ∙ ap (λ n. drop (3 + 4 * n) (c .args .out .now)) (sym all);
+          ap (λ n. drop (3 + 4 * n) (c .loop-k .out)) all ∙ c .loop-k .inv .1
+          ∙ ap (λ n. drop (3 + 4 * n) (c .args .out .now)) (sym all);
     }

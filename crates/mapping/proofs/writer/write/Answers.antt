@@ -27,9 +27,9 @@ returns c =
     let Rest : ℕ → Type 0 = λ k. drop (3 + 4 * length (take k (m .coefficients))) after ≡ drop (3 + 4 * length (take k (m .coefficients))) between in
     let front : take (length header) between ≡ header = subst (λ (k : ℕ). take k between ≡ header) (zero-add (length header)) (c .put .ensures .front) in
     let first : drop (length header) between ≡ drop (length header) before =
-      subst (λ (k : ℕ). drop k between ≡ drop k before) (zero-add (length header)) (c .put .ensures .rest) in
+    subst (λ (k : ℕ). drop k between ≡ drop k before) (zero-add (length header)) (c .put .ensures .rest) in
     let bits : bits-of (take (3 + 4 * n) after) ≡ record-bits m =
-      record-written m n is before between after header spelled three front (subst Bits (sub-zero n) (c .put-values .ensures .bits)) in
+    record-written m n is before between after header spelled three front (subst Bits (sub-zero n) (c .put-values .ensures .bits)) in
     let bytes : Bytes after = all-from-getD (λ (b : ℕ). b < 256) after 0 (λ i h. c .typed .out i .fits) in
     let long : 3 + 4 * n ≤ length after = omega (arith, c .if-out-size .left, c .put .kept .out, c .put-values .kept .out) in
     record {

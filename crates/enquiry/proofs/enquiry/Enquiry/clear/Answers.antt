@@ -20,8 +20,8 @@ pub returns : need.returns
 returns g c =
     let self = c .args .self .now in
     let cleared =
-      clear-ok (self .mapping) (view self) (c .args .region) (c .in-Continue-row .row) (c .answer .result) (c .join-on-self .result) (rows-of (c .remove .last .self)) (c .len .result)
-      (c .in-Continue-row .ensures tt .value) (c .answer .ensures .value) (c .join-on-self .ensures .value) (c .remove .ensures .after) (c .len .ensures .value) in
+    clear-ok (self .mapping) (view self) (c .args .region) (c .in-Continue-row .row) (c .answer .result) (c .join-on-self .result) (rows-of (c .remove .last .self)) (c .len .result)
+    (c .in-Continue-row .ensures tt .value) (c .answer .ensures .value) (c .join-on-self .ensures .value) (c .remove .ensures .after) (c .len .ensures .value) in
     record {
       value = ap (λ r. r .0) cleared;
       after = ap (λ r. r .1) cleared;

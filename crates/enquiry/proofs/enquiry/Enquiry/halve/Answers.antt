@@ -20,8 +20,8 @@ pub returns : need.returns
 returns g c =
     let self = c .args .self .now in
     let halved =
-      halve-ok (g .F·Form .meaning (self .form)) (self .mapping) (view self) (c .args .region) (c .args .input) (view (c .split .last .self)) (c .len .result)
-      (c .in-Continue-may-halve .ensures tt .value) (c .split .ensures .after) (c .len .ensures .value) in
+    halve-ok (g .F·Form .meaning (self .form)) (self .mapping) (view self) (c .args .region) (c .args .input) (view (c .split .last .self)) (c .len .result)
+    (c .in-Continue-may-halve .ensures tt .value) (c .split .ensures .after) (c .len .ensures .value) in
     record {
       value = ap (λ r. r .0) halved;
       after = ap (λ r. r .1) halved;

@@ -20,8 +20,8 @@ pub returns : need.returns
 returns g c =
     let self = c .args .self .now in
     let probed =
-      probe-ok (self .mapping) (view self) (c .args .region) (c .args .corner) (c .in-Continue-row .row) (c .cell-of-cell .result) (c .corner-ends .result) (c .first-witness-self .result)
-      (c .in-Continue-row .ensures tt .value) (c .cell-of-cell .ensures .value) (c .corner-ends .ensures .value) (c .first-witness-self .ensures .value) in
+    probe-ok (self .mapping) (view self) (c .args .region) (c .args .corner) (c .in-Continue-row .row) (c .cell-of-cell .result) (c .corner-ends .result) (c .first-witness-self .result)
+    (c .in-Continue-row .ensures tt .value) (c .cell-of-cell .ensures .value) (c .corner-ends .ensures .value) (c .first-witness-self .ensures .value) in
     record {
       value = ap (λ r. r .0) probed;
       after = ap (λ r. r .1) probed;

@@ -16,6 +16,6 @@ returns g c =
     let high = half (halves .1) (c .args .input - 1) 1 (c .part-second .result) (c .cell-of .ensures .value) (shapes .1) (c .part-second .ensures .value) in
     record {
       after = halved-is ask (self .mapping) (view self) (c .args .region) (c .args .input) row (c .part-first .result) (c .part-second .result) (rows-of (c .put .last .self)) (rows-of (c .push .last .self))
-        (c .in-Some .ensures tt .value .1) low high (c .put .ensures .after) (c .push .ensures .after);
+          (c .in-Some .ensures tt .value .1) low high (c .put .ensures .after) (c .push .ensures .after);
       same = (refl {a = self .form}, refl {a = self .mapping});
     }

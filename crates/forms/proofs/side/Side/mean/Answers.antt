@@ -1,3 +1,4 @@
+-- The mean, from the shift of a sum in 128 bits. Assumes nothing.
 use mathlib.Core.Path.{_∙_, ap, sym}
 use lib.IntN.{pos, _+ℤ_}
 use lib.Signed.{shrZ}

@@ -26,12 +26,13 @@ loop-t-again c =
     let inside : c .args .rows ≤ 64 = rows-fit (c .args .rows) n 64 (c .pre .room) in
     let below : t < 64 = omega (arith, c .loop-t-test .taken) in
     let l = toZ w64 (ofZ w64 (c .row-l .result .0)) in
-    let h = toZ w64 (ofZ w64 (c .row-l .result .1)) in
-    ( length-set (c .loop-t .low) t l ∙ c .loop-t .inv .0
-    , length-set (c .loop-t .high) t h ∙ c .loop-t .inv .1
-    , one-more (λ j. worked (low-of (c .args .by)) n (c .args .self .now .low) (j * (n + 1))) (c .loop-t .low) t l (omega (arith, c .loop-t .inv .0))
-      (row-read (low-of (c .args .by)) (low-of-kept (c .args .by)) (c .args .self .now .low) (t * (n + 1)) n (c .pre .degree) (λ k b. c .pre .low k (omega arith)) (c .row-l .result .0) (c .row-l .ensures .low))
-      (c .loop-t .inv .2)
-    , one-more (λ j. worked (high-of (c .args .by)) n (c .args .self .now .high) (j * (n + 1))) (c .loop-t .high) t h (omega (arith, c .loop-t .inv .1))
-      (row-read (high-of (c .args .by)) (high-of-kept (c .args .by)) (c .args .self .now .high) (t * (n + 1)) n (c .pre .degree) (λ k b. c .pre .high k (omega arith)) (c .row-l .result .1) (c .row-l .ensures .high))
-      (c .loop-t .inv .3))
+    let h = toZ w64 (ofZ w64 (c .row-l .result .1)) in (
+      length-set (c .loop-t .low) t l ∙ c .loop-t .inv .0,
+      length-set (c .loop-t .high) t h ∙ c .loop-t .inv .1,
+      one-more (λ j. worked (low-of (c .args .by)) n (c .args .self .now .low) (j * (n + 1))) (c .loop-t .low) t l (omega (arith, c .loop-t .inv .0))
+          (row-read (low-of (c .args .by)) (low-of-kept (c .args .by)) (c .args .self .now .low) (t * (n + 1)) n (c .pre .degree) (λ k b. c .pre .low k (omega arith)) (c .row-l .result .0) (c .row-l .ensures .low))
+          (c .loop-t .inv .2),
+      one-more (λ j. worked (high-of (c .args .by)) n (c .args .self .now .high) (j * (n + 1))) (c .loop-t .high) t h (omega (arith, c .loop-t .inv .1))
+          (row-read (high-of (c .args .by)) (high-of-kept (c .args .by)) (c .args .self .now .high) (t * (n + 1)) n (c .pre .degree) (λ k b. c .pre .high k (omega arith)) (c .row-l .result .1) (c .row-l .ensures .high))
+          (c .loop-t .inv .3),
+    )

@@ -17,14 +17,17 @@ use Rattle.mapping.proofs.reader.BitReader.take.Needs as need
 pub returns-then-fetched-self : need.returns-then-fetched-self
 returns-then-fetched-self c =
     let e : length (unread (c .args .self .now)) ≡ c .loop-held .held =
-      ap length (c .loop-held .inv .3) ∙ ended (c .loop-held .held) (c .loop-held .window) (c .loop-held .fetched) (c .args .self .now .bytes .now) (c .if-fetched-self .taken) in
+    ap length (c .loop-held .inv .3) ∙ ended (c .loop-held .held) (c .loop-held .window) (c .loop-held .fetched) (c .args .self .now .bytes .now) (c .if-fetched-self .taken) in
     record { value = (omega arith, refl) }
 
 pub loop-held-again : need.loop-held-again
 loop-held-again c =
-    let byte : getD (c .args .self .now .bytes .now) (c .loop-held .fetched) 0 < 256 = search needs in
-    (omega arith, omega arith, fetch-below (c .loop-held .held) (c .loop-held .window) _ (c .loop-held .inv .2) byte,
-      c .loop-held .inv .3 ∙ fetch (c .loop-held .held) (c .loop-held .window) (c .loop-held .fetched) (c .args .self .now .bytes .now) (c .if-fetched-self .left) byte)
+    let byte : getD (c .args .self .now .bytes .now) (c .loop-held .fetched) 0 < 256 = search needs in (
+      omega arith,
+      omega arith,
+      fetch-below (c .loop-held .held) (c .loop-held .window) _ (c .loop-held .inv .2) byte,
+      c .loop-held .inv .3 ∙ fetch (c .loop-held .held) (c .loop-held .window) (c .loop-held .fetched) (c .args .self .now .bytes .now) (c .if-fetched-self .left) byte,
+    )
 
 pub ghost-self : need.ghost-self
 ghost-self c =
@@ -45,9 +48,12 @@ returns c =
     let value = c .loop-held .window / 2 ^ left in
     let rest : List ℕ = ahead left (bitAnd (c .loop-held .window) ((1 * 2 ^ left) % 2 ^ 64 - 1)) bytes (c .loop-held .fetched) in
     let split : unread (c .args .self .now) ≡ spell (c .args .width) value ++ rest =
-      c .loop-held .inv .3 ∙ give (c .loop-held .held) (c .loop-held .window) (c .args .width) (c .loop-held .fetched) bytes (c .loop-held-test .left)
-      ∙ ap (λ w. spell (c .args .width) value ++ ahead left w bytes (c .loop-held .fetched)) (sym m) in
-    record { value =
-      (give-below (c .loop-held .held) (c .loop-held .window) (c .args .width) (c .loop-held-test .left) (c .loop-held .inv .2)
-      , split
-      , length-field (c .args .width) value rest (unread (c .args .self .now)) split) }
+    c .loop-held .inv .3 ∙ give (c .loop-held .held) (c .loop-held .window) (c .args .width) (c .loop-held .fetched) bytes (c .loop-held-test .left)
+    ∙ ap (λ w. spell (c .args .width) value ++ ahead left w bytes (c .loop-held .fetched)) (sym m) in
+    record {
+      value = (
+        give-below (c .loop-held .held) (c .loop-held .window) (c .args .width) (c .loop-held-test .left) (c .loop-held .inv .2),
+        split,
+        length-field (c .args .width) value rest (unread (c .args .self .now)) split,
+      );
+    }
