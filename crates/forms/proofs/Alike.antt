@@ -30,14 +30,14 @@ first-reads q n1 n2 n3 a b h i j k =
     ∙ ap (λ z. q z (factorial n1 * (factorial n2 * factorial n3))) (weighed-reads n1 n2 n3 a b (weights n1 i) (weights n2 j) (weights n3 k) h)
     ∙ first-is q n1 n2 n3 b i j k
 
-pub halved-reads : (f : ℤ → ℤ → ℤ) (n1 n2 n3 d1 p1 d2 p2 d3 p3 : ℕ) (S T : Table) → Alike n1 n2 n3 S T
-    → Alike n1 n2 n3 (halved f n1 n2 n3 d1 p1 d2 p2 d3 p3 S) (halved f n1 n2 n3 d1 p1 d2 p2 d3 p3 T)
+pub halved-reads : (f : ℤ → ℤ → ℤ) (n1 n2 n3 d1 m1 d2 m2 d3 m3 : ℕ) (S T : Table) → Alike n1 n2 n3 S T
+    → Alike n1 n2 n3 (halved f n1 n2 n3 d1 m1 d2 m2 d3 m3 S) (halved f n1 n2 n3 d1 m1 d2 m2 d3 m3 T)
 unfolding halved
-halved-reads f n1 n2 n3 d1 p1 d2 p2 d3 p3 S T h i j k a b c =
-    deep-reads f n3 d3 p3 (λ z. deep (kept f n2) d2 p2 (λ y. deep (kept f n1) d1 p1 (λ x. S x y z) i) j)
-    (λ z. deep (kept f n2) d2 p2 (λ y. deep (kept f n1) d1 p1 (λ x. T x y z) i) j)
-    (λ z zl. deep-reads f n2 d2 p2 (λ y. deep (kept f n1) d1 p1 (λ x. S x y z) i) (λ y. deep (kept f n1) d1 p1 (λ x. T x y z) i)
-    (λ y yl. deep-reads f n1 d1 p1 (λ x. S x y z) (λ x. T x y z) (λ x xl. h x y z xl yl zl) i a) j b) k c
+halved-reads f n1 n2 n3 d1 m1 d2 m2 d3 m3 S T h i j k a b c =
+    deep-reads f n3 d3 m3 (λ z. deep (kept f n2) d2 m2 (λ y. deep (kept f n1) d1 m1 (λ x. S x y z) i) j)
+    (λ z. deep (kept f n2) d2 m2 (λ y. deep (kept f n1) d1 m1 (λ x. T x y z) i) j)
+    (λ z zl. deep-reads f n2 d2 m2 (λ y. deep (kept f n1) d1 m1 (λ x. S x y z) i) (λ y. deep (kept f n1) d1 m1 (λ x. T x y z) i)
+    (λ y yl. deep-reads f n1 d1 m1 (λ x. S x y z) (λ x. T x y z) (λ x xl. h x y z xl yl zl) i a) j b) k c
 
 -- ---- the enclosure
 
@@ -66,27 +66,27 @@ greatest-of-reads n1 n2 n3 S T h =
     greatest-reads n3 (S i j) (T i j) λ k kl. h i j k il jl kl
 
 module _ (n1 n2 n3 : ℕ) (a b : Table) (h : Alike n1 n2 n3 a b) where
-  pub low-table-reads : (d1 p1 d2 p2 d3 p3 : ℕ) → Alike n1 n2 n3 (low-table n1 n2 n3 a d1 p1 d2 p2 d3 p3) (low-table n1 n2 n3 b d1 p1 d2 p2 d3 p3)
+  pub low-table-reads : (d1 m1 d2 m2 d3 m3 : ℕ) → Alike n1 n2 n3 (low-table n1 n2 n3 a d1 m1 d2 m2 d3 m3) (low-table n1 n2 n3 b d1 m1 d2 m2 d3 m3)
   unfolding low-table
-  low-table-reads d1 p1 d2 p2 d3 p3 =
-      halved-reads mean-down n1 n2 n3 d1 p1 d2 p2 d3 p3 (first quot-down n1 n2 n3 a) (first quot-down n1 n2 n3 b) (λ i j k _ _ _. first-reads quot-down n1 n2 n3 a b h i j k)
+  low-table-reads d1 m1 d2 m2 d3 m3 =
+      halved-reads mean-down n1 n2 n3 d1 m1 d2 m2 d3 m3 (first quot-down n1 n2 n3 a) (first quot-down n1 n2 n3 b) (λ i j k _ _ _. first-reads quot-down n1 n2 n3 a b h i j k)
 
-  pub high-table-reads : (d1 p1 d2 p2 d3 p3 : ℕ) → Alike n1 n2 n3 (high-table n1 n2 n3 a d1 p1 d2 p2 d3 p3) (high-table n1 n2 n3 b d1 p1 d2 p2 d3 p3)
+  pub high-table-reads : (d1 m1 d2 m2 d3 m3 : ℕ) → Alike n1 n2 n3 (high-table n1 n2 n3 a d1 m1 d2 m2 d3 m3) (high-table n1 n2 n3 b d1 m1 d2 m2 d3 m3)
   unfolding high-table
-  high-table-reads d1 p1 d2 p2 d3 p3 =
-      halved-reads mean-up n1 n2 n3 d1 p1 d2 p2 d3 p3 (first quot-up n1 n2 n3 a) (first quot-up n1 n2 n3 b) (λ i j k _ _ _. first-reads quot-up n1 n2 n3 a b h i j k)
+  high-table-reads d1 m1 d2 m2 d3 m3 =
+      halved-reads mean-up n1 n2 n3 d1 m1 d2 m2 d3 m3 (first quot-up n1 n2 n3 a) (first quot-up n1 n2 n3 b) (λ i j k _ _ _. first-reads quot-up n1 n2 n3 a b h i j k)
 
-  pub low-reads : (d1 p1 d2 p2 d3 p3 : ℕ) → low n1 n2 n3 a d1 p1 d2 p2 d3 p3 ≡ low n1 n2 n3 b d1 p1 d2 p2 d3 p3
-  low-reads d1 p1 d2 p2 d3 p3 =
-      sym (low-is n1 n2 n3 a d1 p1 d2 p2 d3 p3)
-      ∙ least-of-reads n1 n2 n3 (low-table n1 n2 n3 a d1 p1 d2 p2 d3 p3) (low-table n1 n2 n3 b d1 p1 d2 p2 d3 p3) (low-table-reads d1 p1 d2 p2 d3 p3)
-      ∙ low-is n1 n2 n3 b d1 p1 d2 p2 d3 p3
+  pub low-reads : (d1 m1 d2 m2 d3 m3 : ℕ) → low n1 n2 n3 a d1 m1 d2 m2 d3 m3 ≡ low n1 n2 n3 b d1 m1 d2 m2 d3 m3
+  low-reads d1 m1 d2 m2 d3 m3 =
+      sym (low-is n1 n2 n3 a d1 m1 d2 m2 d3 m3)
+      ∙ least-of-reads n1 n2 n3 (low-table n1 n2 n3 a d1 m1 d2 m2 d3 m3) (low-table n1 n2 n3 b d1 m1 d2 m2 d3 m3) (low-table-reads d1 m1 d2 m2 d3 m3)
+      ∙ low-is n1 n2 n3 b d1 m1 d2 m2 d3 m3
 
-  pub high-reads : (d1 p1 d2 p2 d3 p3 : ℕ) → high n1 n2 n3 a d1 p1 d2 p2 d3 p3 ≡ high n1 n2 n3 b d1 p1 d2 p2 d3 p3
-  high-reads d1 p1 d2 p2 d3 p3 =
-      sym (high-is n1 n2 n3 a d1 p1 d2 p2 d3 p3)
-      ∙ greatest-of-reads n1 n2 n3 (high-table n1 n2 n3 a d1 p1 d2 p2 d3 p3) (high-table n1 n2 n3 b d1 p1 d2 p2 d3 p3) (high-table-reads d1 p1 d2 p2 d3 p3)
-      ∙ high-is n1 n2 n3 b d1 p1 d2 p2 d3 p3
+  pub high-reads : (d1 m1 d2 m2 d3 m3 : ℕ) → high n1 n2 n3 a d1 m1 d2 m2 d3 m3 ≡ high n1 n2 n3 b d1 m1 d2 m2 d3 m3
+  high-reads d1 m1 d2 m2 d3 m3 =
+      sym (high-is n1 n2 n3 a d1 m1 d2 m2 d3 m3)
+      ∙ greatest-of-reads n1 n2 n3 (high-table n1 n2 n3 a d1 m1 d2 m2 d3 m3) (high-table n1 n2 n3 b d1 m1 d2 m2 d3 m3) (high-table-reads d1 m1 d2 m2 d3 m3)
+      ∙ high-is n1 n2 n3 b d1 m1 d2 m2 d3 m3
 
   sizes-alike : Alike n1 n2 n3 (sizes a) (sizes b)
   sizes-alike i j k l m o = ap (λ z. pos (natAbs z)) (h i j k l m o)

@@ -76,13 +76,13 @@ module _ (f : ℤ → ℤ → ℤ) (l h : ℤ) (mean : (x y : ℤ) → Between l
   deep-between n d p r b k le =
       deep-keep (λ d x y. Between l h x) (kept f n) (kept f n) n (λ d b r s q i j. kept-between n b r q i j) r r b d p k le
 
-  pub halved-between : (n1 n2 n3 d1 p1 d2 p2 d3 p3 : ℕ) (T : Table) → ((i j k : ℕ) → i ≤ n1 → j ≤ n2 → k ≤ n3 → Between l h (T i j k))
-      → (i j k : ℕ) → i ≤ n1 → j ≤ n2 → k ≤ n3 → Between l h (halved f n1 n2 n3 d1 p1 d2 p2 d3 p3 T i j k)
+  pub halved-between : (n1 n2 n3 d1 m1 d2 m2 d3 m3 : ℕ) (T : Table) → ((i j k : ℕ) → i ≤ n1 → j ≤ n2 → k ≤ n3 → Between l h (T i j k))
+      → (i j k : ℕ) → i ≤ n1 → j ≤ n2 → k ≤ n3 → Between l h (halved f n1 n2 n3 d1 m1 d2 m2 d3 m3 T i j k)
   unfolding halved
-  halved-between n1 n2 n3 d1 p1 d2 p2 d3 p3 T b i j k il jl kl =
-      deep-between n3 d3 p3 (λ z. deep (kept f n2) d2 p2 (λ y. deep (kept f n1) d1 p1 (λ x. T x y z) i) j)
-      (λ z zl. deep-between n2 d2 p2 (λ y. deep (kept f n1) d1 p1 (λ x. T x y z) i)
-      (λ y yl. deep-between n1 d1 p1 (λ x. T x y z) (λ x xl. b x y z xl yl zl) i il) j jl) k kl
+  halved-between n1 n2 n3 d1 m1 d2 m2 d3 m3 T b i j k il jl kl =
+      deep-between n3 d3 m3 (λ z. deep (kept f n2) d2 m2 (λ y. deep (kept f n1) d1 m1 (λ x. T x y z) i) j)
+      (λ z zl. deep-between n2 d2 m2 (λ y. deep (kept f n1) d1 m1 (λ x. T x y z) i)
+      (λ y yl. deep-between n1 d1 m1 (λ x. T x y z) (λ x xl. b x y z xl yl zl) i il) j jl) k kl
 
 -- ---- quotients
 
@@ -182,19 +182,19 @@ module _ (n1 n2 n3 : ℕ) (a : Table) where
 
   -- ---- the tables on a cell
 
-  pub low-table-between : (d1 p1 d2 p2 d3 p3 j1 j2 j3 : ℕ) → j1 ≤ n1 → j2 ≤ n2 → j3 ≤ n3
-      → Between (negℤ (mass n1 n2 n3 a)) (mass n1 n2 n3 a) (low-table n1 n2 n3 a d1 p1 d2 p2 d3 p3 j1 j2 j3)
+  pub low-table-between : (d1 m1 d2 m2 d3 m3 j1 j2 j3 : ℕ) → j1 ≤ n1 → j2 ≤ n2 → j3 ≤ n3
+      → Between (negℤ (mass n1 n2 n3 a)) (mass n1 n2 n3 a) (low-table n1 n2 n3 a d1 m1 d2 m2 d3 m3 j1 j2 j3)
   unfolding low-table
-  low-table-between d1 p1 d2 p2 d3 p3 j1 j2 j3 h1 h2 h3 =
+  low-table-between d1 m1 d2 m2 d3 m3 j1 j2 j3 h1 h2 h3 =
       halved-between mean-down (negℤ (mass n1 n2 n3 a)) (mass n1 n2 n3 a) (λ x y. mean-down-between (negℤ (mass n1 n2 n3 a)) (mass n1 n2 n3 a) x y)
-      n1 n2 n3 d1 p1 d2 p2 d3 p3 (first quot-down n1 n2 n3 a) first-down-between j1 j2 j3 h1 h2 h3
+      n1 n2 n3 d1 m1 d2 m2 d3 m3 (first quot-down n1 n2 n3 a) first-down-between j1 j2 j3 h1 h2 h3
 
-  pub high-table-between : (d1 p1 d2 p2 d3 p3 j1 j2 j3 : ℕ) → j1 ≤ n1 → j2 ≤ n2 → j3 ≤ n3
-      → Between (negℤ (mass n1 n2 n3 a)) (mass n1 n2 n3 a) (high-table n1 n2 n3 a d1 p1 d2 p2 d3 p3 j1 j2 j3)
+  pub high-table-between : (d1 m1 d2 m2 d3 m3 j1 j2 j3 : ℕ) → j1 ≤ n1 → j2 ≤ n2 → j3 ≤ n3
+      → Between (negℤ (mass n1 n2 n3 a)) (mass n1 n2 n3 a) (high-table n1 n2 n3 a d1 m1 d2 m2 d3 m3 j1 j2 j3)
   unfolding high-table
-  high-table-between d1 p1 d2 p2 d3 p3 j1 j2 j3 h1 h2 h3 =
+  high-table-between d1 m1 d2 m2 d3 m3 j1 j2 j3 h1 h2 h3 =
       halved-between mean-up (negℤ (mass n1 n2 n3 a)) (mass n1 n2 n3 a) (λ x y. mean-up-between (negℤ (mass n1 n2 n3 a)) (mass n1 n2 n3 a) x y)
-      n1 n2 n3 d1 p1 d2 p2 d3 p3 (first quot-up n1 n2 n3 a) first-up-between j1 j2 j3 h1 h2 h3
+      n1 n2 n3 d1 m1 d2 m2 d3 m3 (first quot-up n1 n2 n3 a) first-up-between j1 j2 j3 h1 h2 h3
 
   -- ---- the mass, where every coefficient has a size of at most A
 

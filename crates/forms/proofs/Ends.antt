@@ -27,7 +27,7 @@ unit-nats f1 f2 f3 q1 q2 q3 = simp (one-times, nats)
 unit-left : (A B C W l : ℤ) → A *ℤ (B *ℤ (C *ℤ (W *ℤ l))) ≡ W *ℤ (l *ℤ (A *ℤ (B *ℤ C)))
 unit-left A B C W l = simp ring
 
-module _ (n1 n2 n3 : ℕ) (a : Table) (d1 p1 d2 p2 d3 p3 : ℕ) (h1 : p1 < 2 ^ d1) (h2 : p2 < 2 ^ d2) (h3 : p3 < 2 ^ d3) where
+module _ (n1 n2 n3 : ℕ) (a : Table) (d1 m1 d2 m2 d3 m3 : ℕ) (h1 : m1 < 2 ^ d1) (h2 : m2 < 2 ^ d2) (h3 : m3 < 2 ^ d3) where
   unit-pos : 0 < unit n1 n2 n3 d1 d2 d3
   unfolding unit
   unit-pos = mul-pos (pow-pos (n3 * d3)) (mul-pos (pow-pos (n2 * d2)) (mul-pos (pow-pos (n1 * d1))
@@ -39,45 +39,45 @@ module _ (n1 n2 n3 : ℕ) (a : Table) (d1 p1 d2 p2 d3 p3 : ℕ) (h1 : p1 < 2 ^ d
 
   -- every number of the exact table is at least the low end
   exact-least : (j1 j2 j3 : ℕ) → j1 ≤ n1 → j2 ≤ n2 → j3 ≤ n3
-      → (pos (unit n1 n2 n3 d1 d2 d3) *ℤ low n1 n2 n3 a d1 p1 d2 p2 d3 p3) ≤ℤ exact n1 n2 n3 a d1 p1 d2 p2 d3 p3 j1 j2 j3
+      → (pos (unit n1 n2 n3 d1 d2 d3) *ℤ low n1 n2 n3 a d1 m1 d2 m2 d3 m3) ≤ℤ exact n1 n2 n3 a d1 m1 d2 m2 d3 m3 j1 j2 j3
   exact-least j1 j2 j3 k1 k2 k3 =
-      rw (← low-is n1 n2 n3 a d1 p1 d2 p2 d3 p3)
-      (le-trans (mul-le (unit n1 n2 n3 d1 d2 d3) (least-of-le n1 n2 n3 (low-table n1 n2 n3 a d1 p1 d2 p2 d3 p3) j1 j2 j3 k1 k2 k3))
-      (table-near n1 n2 n3 a d1 p1 d2 p2 d3 p3 j1 j2 j3 k1 k2 k3 .below))
+      rw (← low-is n1 n2 n3 a d1 m1 d2 m2 d3 m3)
+      (le-trans (mul-le (unit n1 n2 n3 d1 d2 d3) (least-of-le n1 n2 n3 (low-table n1 n2 n3 a d1 m1 d2 m2 d3 m3) j1 j2 j3 k1 k2 k3))
+      (table-near n1 n2 n3 a d1 m1 d2 m2 d3 m3 j1 j2 j3 k1 k2 k3 .below))
 
   -- the value at each point of the cell is at least the low end
-  pub encloses-low : (u1 D1 u2 D2 u3 D3 : ℕ) → 0 < D1 → 0 < D2 → 0 < D3 → InPart d1 p1 u1 D1 → InPart d2 p2 u2 D2 → InPart d3 p3 u3 D3
-      → (low n1 n2 n3 a d1 p1 d2 p2 d3 p3 *ℤ pos (D1 ^ n1 * (D2 ^ n2 * D3 ^ n3))) ≤ℤ poly n1 n2 n3 a u1 D1 u2 D2 u3 D3
+  pub encloses-low : (u1 D1 u2 D2 u3 D3 : ℕ) → 0 < D1 → 0 < D2 → 0 < D3 → InPart d1 m1 u1 D1 → InPart d2 m2 u2 D2 → InPart d3 m3 u3 D3
+      → (low n1 n2 n3 a d1 m1 d2 m2 d3 m3 *ℤ pos (D1 ^ n1 * (D2 ^ n2 * D3 ^ n3))) ≤ℤ poly n1 n2 n3 a u1 D1 u2 D2 u3 D3
   encloses-low u1 D1 u2 D2 u3 D3 o1 o2 o3 i1 i2 i3 =
       let W : ℕ = unit n1 n2 n3 d1 d2 d3 in
-      let l : ℤ = low n1 n2 n3 a d1 p1 d2 p2 d3 p3 in
+      let l : ℤ = low n1 n2 n3 a d1 m1 d2 m2 d3 m3 in
       let S1 : Row = λ i. pos (share n1 i u1 D1) in
       let S2 : Row = λ i. pos (share n2 i u2 D2) in
       let S3 : Row = λ i. pos (share n3 i u3 D3) in
       let c1 : ℕ = factorial n1 * 2 ^ (n1 * d1) in
       let c2 : ℕ = factorial n2 * 2 ^ (n2 * d2) in
       let c3 : ℕ = factorial n3 * 2 ^ (n3 * d3) in
-      let three : (j1 j2 : ℕ) → j1 ≤ n1 → j2 ≤ n2 → (pos (D3 ^ n3) *ℤ (pos W *ℤ l)) ≤ℤ (pos (1 * c3) *ℤ weighed n1 n2 n3 a (piece n1 d1 p1 j1) (piece n2 d2 p2 j2) S3) =
-      λ j1 j2 k1 k2. part-least n3 d3 p3 u3 D3 h3 o3 i3 (λ z. weighed n1 n2 n3 a (piece n1 d1 p1 j1) (piece n2 d2 p2 j2) z)
-      (linear3 n1 n2 n3 a (piece n1 d1 p1 j1) (piece n2 d2 p2 j2)) 1 (pos W *ℤ l)
-      (λ j3 k3. rw (one-mul (exact n1 n2 n3 a d1 p1 d2 p2 d3 p3 j1 j2 j3)) (exact-least j1 j2 j3 k1 k2 k3)) in
-      let two : (j1 : ℕ) → j1 ≤ n1 → (pos (D2 ^ n2) *ℤ (pos (D3 ^ n3) *ℤ (pos W *ℤ l))) ≤ℤ (pos ((1 * c3) * c2) *ℤ weighed n1 n2 n3 a (piece n1 d1 p1 j1) S2 S3) =
-      λ j1 k1. part-least n2 d2 p2 u2 D2 h2 o2 i2 (λ y. weighed n1 n2 n3 a (piece n1 d1 p1 j1) y S3) (linear2 n1 n2 n3 a (piece n1 d1 p1 j1) S3)
+      let three : (j1 j2 : ℕ) → j1 ≤ n1 → j2 ≤ n2 → (pos (D3 ^ n3) *ℤ (pos W *ℤ l)) ≤ℤ (pos (1 * c3) *ℤ weighed n1 n2 n3 a (piece n1 d1 m1 j1) (piece n2 d2 m2 j2) S3) =
+      λ j1 j2 k1 k2. part-least n3 d3 m3 u3 D3 h3 o3 i3 (λ z. weighed n1 n2 n3 a (piece n1 d1 m1 j1) (piece n2 d2 m2 j2) z)
+      (linear3 n1 n2 n3 a (piece n1 d1 m1 j1) (piece n2 d2 m2 j2)) 1 (pos W *ℤ l)
+      (λ j3 k3. rw (one-mul (exact n1 n2 n3 a d1 m1 d2 m2 d3 m3 j1 j2 j3)) (exact-least j1 j2 j3 k1 k2 k3)) in
+      let two : (j1 : ℕ) → j1 ≤ n1 → (pos (D2 ^ n2) *ℤ (pos (D3 ^ n3) *ℤ (pos W *ℤ l))) ≤ℤ (pos ((1 * c3) * c2) *ℤ weighed n1 n2 n3 a (piece n1 d1 m1 j1) S2 S3) =
+      λ j1 k1. part-least n2 d2 m2 u2 D2 h2 o2 i2 (λ y. weighed n1 n2 n3 a (piece n1 d1 m1 j1) y S3) (linear2 n1 n2 n3 a (piece n1 d1 m1 j1) S3)
       (1 * c3) (pos (D3 ^ n3) *ℤ (pos W *ℤ l)) (λ j2 k2. three j1 j2 k1 k2) in
       let one : (pos (D1 ^ n1) *ℤ (pos (D2 ^ n2) *ℤ (pos (D3 ^ n3) *ℤ (pos W *ℤ l)))) ≤ℤ (pos (((1 * c3) * c2) * c1) *ℤ weighed n1 n2 n3 a S1 S2 S3) =
-      part-least n1 d1 p1 u1 D1 h1 o1 i1 (λ x. weighed n1 n2 n3 a x S2 S3) (linear1 n1 n2 n3 a S2 S3)
+      part-least n1 d1 m1 u1 D1 h1 o1 i1 (λ x. weighed n1 n2 n3 a x S2 S3) (linear1 n1 n2 n3 a S2 S3)
       ((1 * c3) * c2) (pos (D2 ^ n2) *ℤ (pos (D3 ^ n3) *ℤ (pos W *ℤ l))) two in
       let all : (pos W *ℤ (l *ℤ pos (D1 ^ n1 * (D2 ^ n2 * D3 ^ n3)))) ≤ℤ (pos W *ℤ poly n1 n2 n3 a u1 D1 u2 D2 u3 D3) =
       rw (unit-left (pos (D1 ^ n1)) (pos (D2 ^ n2)) (pos (D3 ^ n3)) (pos W) l, unit-is, ← poly-weighed n1 n2 n3 a u1 D1 u2 D2 u3 D3) at one in
       mul-le-cancel W unit-pos all
 
   -- at some point of the cell the value is at most the low end plus the slack
-  pub low-near : (c : CellPoint d1 p1 d2 p2 d3 p3)
+  pub low-near : (c : CellPoint d1 m1 d2 m2 d3 m3)
       × (poly n1 n2 n3 a (c .u1) (c .D) (c .u2) (c .D) (c .u3) (c .D)
-      ≤ℤ ((low n1 n2 n3 a d1 p1 d2 p2 d3 p3 +ℤ slack n1 n2 n3 a d1 d2 d3) *ℤ pos (c .D ^ (n1 + n2 + n3))))
+      ≤ℤ ((low n1 n2 n3 a d1 m1 d2 m2 d3 m3 +ℤ slack n1 n2 n3 a d1 d2 d3) *ℤ pos (c .D ^ (n1 + n2 + n3))))
   low-near =
-      let at = least-of-at n1 n2 n3 (low-table n1 n2 n3 a d1 p1 d2 p2 d3 p3) in
-      rw (← low-is n1 n2 n3 a d1 p1 d2 p2 d3 p3, at .is)
-      (near-point n1 n2 n3 a d1 p1 d2 p2 d3 p3 h1 h2 h3 (at .i) (at .j) (at .k) (at .i-le) (at .j-le) (at .k-le)
-      (low-table n1 n2 n3 a d1 p1 d2 p2 d3 p3 (at .i) (at .j) (at .k))
-      (table-near n1 n2 n3 a d1 p1 d2 p2 d3 p3 (at .i) (at .j) (at .k) (at .i-le) (at .j-le) (at .k-le)))
+      let at = least-of-at n1 n2 n3 (low-table n1 n2 n3 a d1 m1 d2 m2 d3 m3) in
+      rw (← low-is n1 n2 n3 a d1 m1 d2 m2 d3 m3, at .is)
+      (near-point n1 n2 n3 a d1 m1 d2 m2 d3 m3 h1 h2 h3 (at .i) (at .j) (at .k) (at .i-le) (at .j-le) (at .k-le)
+      (low-table n1 n2 n3 a d1 m1 d2 m2 d3 m3 (at .i) (at .j) (at .k))
+      (table-near n1 n2 n3 a d1 m1 d2 m2 d3 m3 (at .i) (at .j) (at .k) (at .i-le) (at .j-le) (at .k-le)))

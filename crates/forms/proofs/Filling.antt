@@ -62,29 +62,29 @@ pair-below a b i j h l =
     let m : suc i * (b + 1) ≤ (a + 1) * (b + 1) = mul-le-mul-right (b + 1) (omega arith) in
     omega (arith, suc-mul i (b + 1))
 
-pub turned-back : (f : ℤ → ℤ → ℤ) (n1 n2 n3 d1 p1 d2 p2 d3 p3 : ℕ) (w x y z : List ℤ)
-    → Turned n1 ((n2 + 1) * (n3 + 1)) (deep (kept f n1) d1 p1) w x
-    → Turned n2 ((n3 + 1) * (n1 + 1)) (deep (kept f n2) d2 p2) x y
-    → Turned n3 ((n1 + 1) * (n2 + 1)) (deep (kept f n3) d3 p3) y z
+pub turned-back : (f : ℤ → ℤ → ℤ) (n1 n2 n3 d1 m1 d2 m2 d3 m3 : ℕ) (w x y z : List ℤ)
+    → Turned n1 ((n2 + 1) * (n3 + 1)) (deep (kept f n1) d1 m1) w x
+    → Turned n2 ((n3 + 1) * (n1 + 1)) (deep (kept f n2) d2 m2) x y
+    → Turned n3 ((n1 + 1) * (n2 + 1)) (deep (kept f n3) d3 m3) y z
     → (i j k : ℕ) → i ≤ n1 → j ≤ n2 → k ≤ n3
     → numbers z ((i * (n2 + 1) + j) * (n3 + 1) + k)
-    ≡ halved f n1 n2 n3 d1 p1 d2 p2 d3 p3 (λ i j k. numbers w ((i * (n2 + 1) + j) * (n3 + 1) + k)) i j k
+    ≡ halved f n1 n2 n3 d1 m1 d2 m2 d3 m3 (λ i j k. numbers w ((i * (n2 + 1) + j) * (n3 + 1) + k)) i j k
 unfolding halved
-turned-back f n1 n2 n3 d1 p1 d2 p2 d3 p3 w x y z one two three i j k il jl kl =
+turned-back f n1 n2 n3 d1 m1 d2 m2 d3 m3 w x y z one two three i j k il jl kl =
     let A : ℕ = n1 + 1 in
     let B : ℕ = n2 + 1 in
     let C : ℕ = n3 + 1 in
     three (i * B + j) k (pair-below n1 n2 i j il jl) kl
-    ∙ deep-reads f n3 d3 p3 (λ c. numbers y (c * (A * B) + (i * B + j)))
-    (λ c. deep (kept f n2) d2 p2 (λ b. deep (kept f n1) d1 p1 (λ a. numbers w ((a * B + b) * C + c)) i) j)
+    ∙ deep-reads f n3 d3 m3 (λ c. numbers y (c * (A * B) + (i * B + j)))
+    (λ c. deep (kept f n2) d2 m2 (λ b. deep (kept f n1) d1 m1 (λ a. numbers w ((a * B + b) * C + c)) i) j)
     (λ c cl.
     ap (numbers y) (turned-nats c A B i j)
     ∙ two (c * A + i) j (pair-below n3 n1 c i cl il) jl
-    ∙ deep-reads f n2 d2 p2 (λ b. numbers x (b * (C * A) + (c * A + i))) (λ b. deep (kept f n1) d1 p1 (λ a. numbers w ((a * B + b) * C + c)) i)
+    ∙ deep-reads f n2 d2 m2 (λ b. numbers x (b * (C * A) + (c * A + i))) (λ b. deep (kept f n1) d1 m1 (λ a. numbers w ((a * B + b) * C + c)) i)
     (λ b bl.
     ap (numbers x) (turned-nats b C A c i)
     ∙ one (b * C + c) i (pair-below n2 n3 b c bl cl) il
-    ∙ deep-reads f n1 d1 p1 (λ a. numbers w (a * (B * C) + (b * C + c))) (λ a. numbers w ((a * B + b) * C + c))
+    ∙ deep-reads f n1 d1 m1 (λ a. numbers w (a * (B * C) + (b * C + c))) (λ a. numbers w ((a * B + b) * C + c))
     (λ a al. ap (numbers w) (turned-nats a B C b c)) i il)
     j jl)
     k kl

@@ -69,43 +69,43 @@ first-neg n1 n2 n3 a i j k =
     ∙ ap (λ y. negℤ (quot-down y F)) (sym (weighed-neg n1 n2 n3 a (weights n1 i) (weights n2 j) (weights n3 k)))
     ∙ ap negℤ (first-is quot-down n1 n2 n3 (neg-table a) i j k))
 
-high-table-is : (n1 n2 n3 : ℕ) (a : Table) (d1 p1 d2 p2 d3 p3 j1 j2 j3 : ℕ) → high-table n1 n2 n3 a d1 p1 d2 p2 d3 p3 j1 j2 j3
-    ≡ deep (kept mean-up n3) d3 p3 (λ x3. deep (kept mean-up n2) d2 p2 (λ x2. deep (kept mean-up n1) d1 p1 (λ x1. first quot-up n1 n2 n3 a x1 x2 x3) j1) j2) j3
+high-table-is : (n1 n2 n3 : ℕ) (a : Table) (d1 m1 d2 m2 d3 m3 j1 j2 j3 : ℕ) → high-table n1 n2 n3 a d1 m1 d2 m2 d3 m3 j1 j2 j3
+    ≡ deep (kept mean-up n3) d3 m3 (λ x3. deep (kept mean-up n2) d2 m2 (λ x2. deep (kept mean-up n1) d1 m1 (λ x1. first quot-up n1 n2 n3 a x1 x2 x3) j1) j2) j3
 unfolding high-table halved
-high-table-is n1 n2 n3 a d1 p1 d2 p2 d3 p3 j1 j2 j3 = refl
+high-table-is n1 n2 n3 a d1 m1 d2 m2 d3 m3 j1 j2 j3 = refl
 
 -- the high table is minus the low table of minus the polynomial
-pub high-table-mirror : (n1 n2 n3 : ℕ) (a : Table) (d1 p1 d2 p2 d3 p3 j1 j2 j3 : ℕ)
-    → high-table n1 n2 n3 a d1 p1 d2 p2 d3 p3 j1 j2 j3 ≡ negℤ (low-table n1 n2 n3 (neg-table a) d1 p1 d2 p2 d3 p3 j1 j2 j3)
-high-table-mirror n1 n2 n3 a d1 p1 d2 p2 d3 p3 j1 j2 j3 =
+pub high-table-mirror : (n1 n2 n3 : ℕ) (a : Table) (d1 m1 d2 m2 d3 m3 j1 j2 j3 : ℕ)
+    → high-table n1 n2 n3 a d1 m1 d2 m2 d3 m3 j1 j2 j3 ≡ negℤ (low-table n1 n2 n3 (neg-table a) d1 m1 d2 m2 d3 m3 j1 j2 j3)
+high-table-mirror n1 n2 n3 a d1 m1 d2 m2 d3 m3 j1 j2 j3 =
     let U0 : Table = first quot-up n1 n2 n3 a in
     let L0 : Table = first quot-down n1 n2 n3 (neg-table a) in
-    let U1 : ℕ → ℕ → ℤ = λ x2 x3. deep (kept mean-up n1) d1 p1 (λ x1. U0 x1 x2 x3) j1 in
-    let L1 : ℕ → ℕ → ℤ = λ x2 x3. deep (kept mean-down n1) d1 p1 (λ x1. L0 x1 x2 x3) j1 in
-    let U2 : ℕ → ℤ = λ x3. deep (kept mean-up n2) d2 p2 (λ x2. U1 x2 x3) j2 in
-    let L2 : ℕ → ℤ = λ x3. deep (kept mean-down n2) d2 p2 (λ x2. L1 x2 x3) j2 in
+    let U1 : ℕ → ℕ → ℤ = λ x2 x3. deep (kept mean-up n1) d1 m1 (λ x1. U0 x1 x2 x3) j1 in
+    let L1 : ℕ → ℕ → ℤ = λ x2 x3. deep (kept mean-down n1) d1 m1 (λ x1. L0 x1 x2 x3) j1 in
+    let U2 : ℕ → ℤ = λ x3. deep (kept mean-up n2) d2 m2 (λ x2. U1 x2 x3) j2 in
+    let L2 : ℕ → ℤ = λ x3. deep (kept mean-down n2) d2 m2 (λ x2. L1 x2 x3) j2 in
     let one : (x2 x3 : ℕ) → negℤ (U1 x2 x3) ≡ L1 x2 x3 = λ x2 x3.
-    back (U1 x2 x3) (deep (kept mean-down n1) d1 p1 (λ x1. negℤ (U0 x1 x2 x3)) j1) (deep-neg n1 d1 p1 (λ x1. U0 x1 x2 x3) j1)
-    ∙ ap (λ r. deep (kept mean-down n1) d1 p1 r j1) (fun-ext λ x1. first-neg n1 n2 n3 a x1 x2 x3) in
+    back (U1 x2 x3) (deep (kept mean-down n1) d1 m1 (λ x1. negℤ (U0 x1 x2 x3)) j1) (deep-neg n1 d1 m1 (λ x1. U0 x1 x2 x3) j1)
+    ∙ ap (λ r. deep (kept mean-down n1) d1 m1 r j1) (fun-ext λ x1. first-neg n1 n2 n3 a x1 x2 x3) in
     let two : (x3 : ℕ) → negℤ (U2 x3) ≡ L2 x3 = λ x3.
-    back (U2 x3) (deep (kept mean-down n2) d2 p2 (λ x2. negℤ (U1 x2 x3)) j2) (deep-neg n2 d2 p2 (λ x2. U1 x2 x3) j2)
-    ∙ ap (λ r. deep (kept mean-down n2) d2 p2 r j2) (fun-ext λ x2. one x2 x3) in
-    high-table-is n1 n2 n3 a d1 p1 d2 p2 d3 p3 j1 j2 j3
-    ∙ deep-neg n3 d3 p3 U2 j3
-    ∙ ap (λ r. negℤ (deep (kept mean-down n3) d3 p3 r j3)) (fun-ext two)
-    ∙ ap negℤ (low-table-is n1 n2 n3 (neg-table a) d1 p1 d2 p2 d3 p3 j1 j2 j3)
+    back (U2 x3) (deep (kept mean-down n2) d2 m2 (λ x2. negℤ (U1 x2 x3)) j2) (deep-neg n2 d2 m2 (λ x2. U1 x2 x3) j2)
+    ∙ ap (λ r. deep (kept mean-down n2) d2 m2 r j2) (fun-ext λ x2. one x2 x3) in
+    high-table-is n1 n2 n3 a d1 m1 d2 m2 d3 m3 j1 j2 j3
+    ∙ deep-neg n3 d3 m3 U2 j3
+    ∙ ap (λ r. negℤ (deep (kept mean-down n3) d3 m3 r j3)) (fun-ext two)
+    ∙ ap negℤ (low-table-is n1 n2 n3 (neg-table a) d1 m1 d2 m2 d3 m3 j1 j2 j3)
 
 -- ---- the ends, the values and the slack
 
-pub high-mirror : (n1 n2 n3 : ℕ) (a : Table) (d1 p1 d2 p2 d3 p3 : ℕ)
-    → high n1 n2 n3 a d1 p1 d2 p2 d3 p3 ≡ negℤ (low n1 n2 n3 (neg-table a) d1 p1 d2 p2 d3 p3)
-high-mirror n1 n2 n3 a d1 p1 d2 p2 d3 p3 =
-    sym (high-is n1 n2 n3 a d1 p1 d2 p2 d3 p3)
-    ∙ greatest-of-least n1 n2 n3 (high-table n1 n2 n3 a d1 p1 d2 p2 d3 p3)
+pub high-mirror : (n1 n2 n3 : ℕ) (a : Table) (d1 m1 d2 m2 d3 m3 : ℕ)
+    → high n1 n2 n3 a d1 m1 d2 m2 d3 m3 ≡ negℤ (low n1 n2 n3 (neg-table a) d1 m1 d2 m2 d3 m3)
+high-mirror n1 n2 n3 a d1 m1 d2 m2 d3 m3 =
+    sym (high-is n1 n2 n3 a d1 m1 d2 m2 d3 m3)
+    ∙ greatest-of-least n1 n2 n3 (high-table n1 n2 n3 a d1 m1 d2 m2 d3 m3)
     ∙ ap (λ T. negℤ (least-of n1 n2 n3 T)) (fun-ext λ i. fun-ext λ j. fun-ext λ k.
-    back (high-table n1 n2 n3 a d1 p1 d2 p2 d3 p3 i j k) (low-table n1 n2 n3 (neg-table a) d1 p1 d2 p2 d3 p3 i j k)
-    (high-table-mirror n1 n2 n3 a d1 p1 d2 p2 d3 p3 i j k))
-    ∙ ap negℤ (low-is n1 n2 n3 (neg-table a) d1 p1 d2 p2 d3 p3)
+    back (high-table n1 n2 n3 a d1 m1 d2 m2 d3 m3 i j k) (low-table n1 n2 n3 (neg-table a) d1 m1 d2 m2 d3 m3 i j k)
+    (high-table-mirror n1 n2 n3 a d1 m1 d2 m2 d3 m3 i j k))
+    ∙ ap negℤ (low-is n1 n2 n3 (neg-table a) d1 m1 d2 m2 d3 m3)
 
 pub poly-mirror : (n1 n2 n3 : ℕ) (a : Table) (u1 D1 u2 D2 u3 D3 : ℕ)
     → poly n1 n2 n3 (neg-table a) u1 D1 u2 D2 u3 D3 ≡ negℤ (poly n1 n2 n3 a u1 D1 u2 D2 u3 D3)

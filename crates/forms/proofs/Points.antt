@@ -70,11 +70,11 @@ poly-times n1 n2 n3 a c1 u1 D1 c2 u2 D2 c3 u3 D3 =
 powers-nats : (a b c x y z : ℕ) → (a * (b * c)) * (x * (y * z)) ≡ ((a * x) * (b * y)) * (c * z)
 powers-nats a b c x y z = simp nats
 
-pub one-denominator : (n1 n2 n3 : ℕ) (a : Table) (d1 p1 d2 p2 d3 p3 u1 D1 u2 D2 u3 D3 : ℕ) (z : ℤ) → 0 < D1 → 0 < D2 → 0 < D3
-    → u1 ≤ D1 → u2 ≤ D2 → u3 ≤ D3 → InPart d1 p1 u1 D1 → InPart d2 p2 u2 D2 → InPart d3 p3 u3 D3
+pub one-denominator : (n1 n2 n3 : ℕ) (a : Table) (d1 m1 d2 m2 d3 m3 u1 D1 u2 D2 u3 D3 : ℕ) (z : ℤ) → 0 < D1 → 0 < D2 → 0 < D3
+    → u1 ≤ D1 → u2 ≤ D2 → u3 ≤ D3 → InPart d1 m1 u1 D1 → InPart d2 m2 u2 D2 → InPart d3 m3 u3 D3
     → poly n1 n2 n3 a u1 D1 u2 D2 u3 D3 ≤ℤ (pos (D1 ^ n1 * (D2 ^ n2 * D3 ^ n3)) *ℤ z)
-    → (c : CellPoint d1 p1 d2 p2 d3 p3) × (poly n1 n2 n3 a (c .u1) (c .D) (c .u2) (c .D) (c .u3) (c .D) ≤ℤ (z *ℤ pos (c .D ^ (n1 + n2 + n3))))
-one-denominator n1 n2 n3 a d1 p1 d2 p2 d3 p3 u1 D1 u2 D2 u3 D3 z o1 o2 o3 l1 l2 l3 i1 i2 i3 h =
+    → (c : CellPoint d1 m1 d2 m2 d3 m3) × (poly n1 n2 n3 a (c .u1) (c .D) (c .u2) (c .D) (c .u3) (c .D) ≤ℤ (z *ℤ pos (c .D ^ (n1 + n2 + n3))))
+one-denominator n1 n2 n3 a d1 m1 d2 m2 d3 m3 u1 D1 u2 D2 u3 D3 z o1 o2 o3 l1 l2 l3 i1 i2 i3 h =
     let c1 : ℕ = D2 * D3 in
     let c2 : ℕ = D1 * D3 in
     let c3 : ℕ = D1 * D2 in
@@ -106,9 +106,9 @@ one-denominator n1 n2 n3 a d1 p1 d2 p2 d3 p3 u1 D1 u2 D2 u3 D3 z o1 o2 o3 l1 l2 
         u1-le = le-by e1 (mul-le-mul-left c1 l1);
         u2-le = le-by e2 (mul-le-mul-left c2 l2);
         u3-le = le-by e3 (mul-le-mul-left c3 l3);
-        part1 = subst (InPart d1 p1 (c1 * u1)) e1 (part-times c1 d1 p1 u1 D1 i1);
-        part2 = subst (InPart d2 p2 (c2 * u2)) e2 (part-times c2 d2 p2 u2 D2 i2);
-        part3 = subst (InPart d3 p3 (c3 * u3)) e3 (part-times c3 d3 p3 u3 D3 i3);
+        part1 = subst (InPart d1 m1 (c1 * u1)) e1 (part-times c1 d1 m1 u1 D1 i1);
+        part2 = subst (InPart d2 m2 (c2 * u2)) e2 (part-times c2 d2 m2 u2 D2 i2);
+        part3 = subst (InPart d3 m3 (c3 * u3)) e3 (part-times c3 d3 m3 u3 D3 i3);
       },
       rw (value, ← bound) (mul-le C h),
     )
@@ -155,36 +155,36 @@ grain-power n d = ap (λ z. z * grain n ^ n) (sym (pow-pow 2 d n)) ∙ sym (mul-
 
 -- ---- the point of the cell near the number at j1, j2, j3: its value is at most the exact number there, plus what the bends lose
 
-module _ (n1 n2 n3 : ℕ) (a : Table) (d1 p1 d2 p2 d3 p3 : ℕ) (h1 : p1 < 2 ^ d1) (h2 : p2 < 2 ^ d2) (h3 : p3 < 2 ^ d3)
+module _ (n1 n2 n3 : ℕ) (a : Table) (d1 m1 d2 m2 d3 m3 : ℕ) (h1 : m1 < 2 ^ d1) (h2 : m2 < 2 ^ d2) (h3 : m3 < 2 ^ d3)
     (j1 j2 j3 : ℕ) (k1 : j1 ≤ n1) (k2 : j2 ≤ n2) (k3 : j3 ≤ n3) (l : ℤ)
-    (near : Near (((2 + n1 * d1) + n2 * d2) + n3 * d3) (unit n1 n2 n3 d1 d2 d3) l (exact n1 n2 n3 a d1 p1 d2 p2 d3 p3 j1 j2 j3)) where
+    (near : Near (((2 + n1 * d1) + n2 * d2) + n3 * d3) (unit n1 n2 n3 d1 d2 d3) l (exact n1 n2 n3 a d1 m1 d2 m2 d3 m3 j1 j2 j3)) where
   powers : ℕ
   powers = (2 ^ d1 * grain n1) ^ n1 * ((2 ^ d2 * grain n2) ^ n2 * (2 ^ d3 * grain n3) ^ n3)
 
   value : ℤ
-  value = poly n1 n2 n3 a (p1 * grain n1 + j1) (2 ^ d1 * grain n1) (p2 * grain n2 + j2) (2 ^ d2 * grain n2) (p3 * grain n3 + j3) (2 ^ d3 * grain n3)
+  value = poly n1 n2 n3 a (m1 * grain n1 + j1) (2 ^ d1 * grain n1) (m2 * grain n2 + j2) (2 ^ d2 * grain n2) (m3 * grain n3 + j3) (2 ^ d3 * grain n3)
 
   losses : ℤ
   losses = bend-loss n1 d1 (bends1 n1 n2 n3 a) +ℤ (bend-loss n2 d2 (bends2 n1 n2 n3 a) +ℤ bend-loss n3 d3 (bends3 n1 n2 n3 a))
 
   point-le : (pos (factorial n1 * (factorial n2 * factorial n3)) *ℤ value)
-      ≤ℤ ((pos (grain n1 ^ n1 * (grain n2 ^ n2 * grain n3 ^ n3)) *ℤ exact n1 n2 n3 a d1 p1 d2 p2 d3 p3 j1 j2 j3)
+      ≤ℤ ((pos (grain n1 ^ n1 * (grain n2 ^ n2 * grain n3 ^ n3)) *ℤ exact n1 n2 n3 a d1 m1 d2 m2 d3 m3 j1 j2 j3)
       +ℤ (pos (point-scale n1 d1 * (point-scale n2 d2 * point-scale n3 d3)) *ℤ losses))
   unfolding value losses
   point-le =
-      let x-is : weighed n1 n2 n3 a (point-row n1 d1 p1 j1) (point-row n2 d2 p2 j2) (point-row n3 d3 p3 j3) ≡ pos (factorial n1 * (factorial n2 * factorial n3)) *ℤ value =
+      let x-is : weighed n1 n2 n3 a (point-row n1 d1 m1 j1) (point-row n2 d2 m2 j2) (point-row n3 d3 m3 j3) ≡ pos (factorial n1 * (factorial n2 * factorial n3)) *ℤ value =
       weighed-scale n1 n2 n3 a (pos (factorial n1)) (pos (factorial n2)) (pos (factorial n3))
-      (λ i. pos (share n1 i (p1 * grain n1 + j1) (2 ^ d1 * grain n1))) (λ i. pos (share n2 i (p2 * grain n2 + j2) (2 ^ d2 * grain n2)))
-      (λ i. pos (share n3 i (p3 * grain n3 + j3) (2 ^ d3 * grain n3)))
+      (λ i. pos (share n1 i (m1 * grain n1 + j1) (2 ^ d1 * grain n1))) (λ i. pos (share n2 i (m2 * grain n2 + j2) (2 ^ d2 * grain n2)))
+      (λ i. pos (share n3 i (m3 * grain n3 + j3) (2 ^ d3 * grain n3)))
       ∙ ap (λ z. pos (factorial n1 * (factorial n2 * factorial n3)) *ℤ z)
-      (sym (poly-weighed n1 n2 n3 a (p1 * grain n1 + j1) (2 ^ d1 * grain n1) (p2 * grain n2 + j2) (2 ^ d2 * grain n2) (p3 * grain n3 + j3) (2 ^ d3 * grain n3))) in
-      let y-is : weighed n1 n2 n3 a (place-row n1 d1 p1 j1) (place-row n2 d2 p2 j2) (place-row n3 d3 p3 j3)
-      ≡ pos (grain n1 ^ n1 * (grain n2 ^ n2 * grain n3 ^ n3)) *ℤ exact n1 n2 n3 a d1 p1 d2 p2 d3 p3 j1 j2 j3 =
-      weighed-scale n1 n2 n3 a (pos (grain n1 ^ n1)) (pos (grain n2 ^ n2)) (pos (grain n3 ^ n3)) (piece n1 d1 p1 j1) (piece n2 d2 p2 j2) (piece n3 d3 p3 j3) in
+      (sym (poly-weighed n1 n2 n3 a (m1 * grain n1 + j1) (2 ^ d1 * grain n1) (m2 * grain n2 + j2) (2 ^ d2 * grain n2) (m3 * grain n3 + j3) (2 ^ d3 * grain n3))) in
+      let y-is : weighed n1 n2 n3 a (place-row n1 d1 m1 j1) (place-row n2 d2 m2 j2) (place-row n3 d3 m3 j3)
+      ≡ pos (grain n1 ^ n1 * (grain n2 ^ n2 * grain n3 ^ n3)) *ℤ exact n1 n2 n3 a d1 m1 d2 m2 d3 m3 j1 j2 j3 =
+      weighed-scale n1 n2 n3 a (pos (grain n1 ^ n1)) (pos (grain n2 ^ n2)) (pos (grain n3 ^ n3)) (piece n1 d1 m1 j1) (piece n2 d2 m2 j2) (piece n3 d3 m3 j3) in
       rw (x-is, y-is) at
       (close-all n1 n2 n3 a d1 d2 d3 (point-scale n1 d1) (point-scale n2 d2) (point-scale n3 d3)
-      (point-row n1 d1 p1 j1) (place-row n1 d1 p1 j1) (point-row n2 d2 p2 j2) (place-row n2 d2 p2 j2) (point-row n3 d3 p3 j3) (place-row n3 d3 p3 j3)
-      (place-close n1 d1 p1 j1 h1 k1) (place-close n2 d2 p2 j2 h2 k2) (place-close n3 d3 p3 j3 h3 k3))
+      (point-row n1 d1 m1 j1) (place-row n1 d1 m1 j1) (point-row n2 d2 m2 j2) (place-row n2 d2 m2 j2) (point-row n3 d3 m3 j3) (place-row n3 d3 m3 j3)
+      (place-close n1 d1 m1 j1 h1 k1) (place-close n2 d2 m2 j2 h2 k2) (place-close n3 d3 m3 j3 h3 k3))
 
   unit-is : (grain n1 ^ n1 * (grain n2 ^ n2 * grain n3 ^ n3)) * unit n1 n2 n3 d1 d2 d3 ≡ (factorial n1 * (factorial n2 * factorial n3)) * powers
   unfolding unit powers
@@ -202,19 +202,19 @@ module _ (n1 n2 n3 : ℕ) (a : Table) (d1 p1 d2 p2 d3 p3 : ℕ) (h1 : p1 < 2 ^ d
       within powers (((2 + n1 * d1) + n2 * d2) + n3 * d3) value l losses (slack n1 n2 n3 a d1 d2 d3) (slack-is n1 n2 n3 a d1 d2 d3)
       (mul-le-cancel (factorial n1 * (factorial n2 * factorial n3)) (mul-pos (factorial-pos n1) (mul-pos (factorial-pos n2) (factorial-pos n3)))
       (double-le (factorial n1 * (factorial n2 * factorial n3)) (grain n1 ^ n1 * (grain n2 ^ n2 * grain n3 ^ n3)) (unit n1 n2 n3 d1 d2 d3) powers
-      (point-scale n1 d1 * (point-scale n2 d2 * point-scale n3 d3)) value (exact n1 n2 n3 a d1 p1 d2 p2 d3 p3 j1 j2 j3) l losses (((2 + n1 * d1) + n2 * d2) + n3 * d3)
+      (point-scale n1 d1 * (point-scale n2 d2 * point-scale n3 d3)) value (exact n1 n2 n3 a d1 m1 d2 m2 d3 m3 j1 j2 j3) l losses (((2 + n1 * d1) + n2 * d2) + n3 * d3)
       unit-is scale-is point-le (near .above)))
 
   -- over one denominator
-  pub near-point : (c : CellPoint d1 p1 d2 p2 d3 p3)
+  pub near-point : (c : CellPoint d1 m1 d2 m2 d3 m3)
       × (poly n1 n2 n3 a (c .u1) (c .D) (c .u2) (c .D) (c .u3) (c .D) ≤ℤ ((l +ℤ slack n1 n2 n3 a d1 d2 d3) *ℤ pos (c .D ^ (n1 + n2 + n3))))
   unfolding value powers
   near-point =
-      one-denominator n1 n2 n3 a d1 p1 d2 p2 d3 p3 (p1 * grain n1 + j1) (2 ^ d1 * grain n1) (p2 * grain n2 + j2) (2 ^ d2 * grain n2) (p3 * grain n3 + j3) (2 ^ d3 * grain n3)
+      one-denominator n1 n2 n3 a d1 m1 d2 m2 d3 m3 (m1 * grain n1 + j1) (2 ^ d1 * grain n1) (m2 * grain n2 + j2) (2 ^ d2 * grain n2) (m3 * grain n3 + j3) (2 ^ d3 * grain n3)
       (l +ℤ slack n1 n2 n3 a d1 d2 d3)
       (mul-pos (pow-pos d1) (grain-pos n1)) (mul-pos (pow-pos d2) (grain-pos n2)) (mul-pos (pow-pos d3) (grain-pos n3))
-      (room d1 p1 (grain n1) j1 h1 g1) (room d2 p2 (grain n2) j2 h2 g2) (room d3 p3 (grain n3) j3 h3 g3)
-      (near-part d1 p1 (grain n1) j1 g1) (near-part d2 p2 (grain n2) j2 g2) (near-part d3 p3 (grain n3) j3 g3)
+      (room d1 m1 (grain n1) j1 h1 g1) (room d2 m2 (grain n2) j2 h2 g2) (room d3 m3 (grain n3) j3 h3 g3)
+      (near-part d1 m1 (grain n1) j1 g1) (near-part d2 m2 (grain n2) j2 g2) (near-part d3 m3 (grain n3) j3 g3)
       value-le
     where
       g1 : j1 ≤ grain n1

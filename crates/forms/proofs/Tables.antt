@@ -52,22 +52,22 @@ pub first-is : (q : ℤ → ℕ → ℤ) (n1 n2 n3 : ℕ) (a : Table) (j1 j2 j3 
 unfolding first numerator
 first-is q n1 n2 n3 a j1 j2 j3 = refl
 
-pub low-table-is : (n1 n2 n3 : ℕ) (a : Table) (d1 p1 d2 p2 d3 p3 j1 j2 j3 : ℕ)
-    → deep (kept mean-down n3) d3 p3 (λ x3. deep (kept mean-down n2) d2 p2 (λ x2. deep (kept mean-down n1) d1 p1 (λ x1. first quot-down n1 n2 n3 a x1 x2 x3) j1) j2) j3
-    ≡ low-table n1 n2 n3 a d1 p1 d2 p2 d3 p3 j1 j2 j3
+pub low-table-is : (n1 n2 n3 : ℕ) (a : Table) (d1 m1 d2 m2 d3 m3 j1 j2 j3 : ℕ)
+    → deep (kept mean-down n3) d3 m3 (λ x3. deep (kept mean-down n2) d2 m2 (λ x2. deep (kept mean-down n1) d1 m1 (λ x1. first quot-down n1 n2 n3 a x1 x2 x3) j1) j2) j3
+    ≡ low-table n1 n2 n3 a d1 m1 d2 m2 d3 m3 j1 j2 j3
 unfolding low-table halved
-low-table-is n1 n2 n3 a d1 p1 d2 p2 d3 p3 j1 j2 j3 = refl
+low-table-is n1 n2 n3 a d1 m1 d2 m2 d3 m3 j1 j2 j3 = refl
 
 -- the definitions once more, for proofs that keep them shut
-pub low-is : (n1 n2 n3 : ℕ) (a : Table) (d1 p1 d2 p2 d3 p3 : ℕ)
-    → least-of n1 n2 n3 (low-table n1 n2 n3 a d1 p1 d2 p2 d3 p3) ≡ low n1 n2 n3 a d1 p1 d2 p2 d3 p3
+pub low-is : (n1 n2 n3 : ℕ) (a : Table) (d1 m1 d2 m2 d3 m3 : ℕ)
+    → least-of n1 n2 n3 (low-table n1 n2 n3 a d1 m1 d2 m2 d3 m3) ≡ low n1 n2 n3 a d1 m1 d2 m2 d3 m3
 unfolding low
-low-is n1 n2 n3 a d1 p1 d2 p2 d3 p3 = refl
+low-is n1 n2 n3 a d1 m1 d2 m2 d3 m3 = refl
 
-pub high-is : (n1 n2 n3 : ℕ) (a : Table) (d1 p1 d2 p2 d3 p3 : ℕ)
-    → greatest-of n1 n2 n3 (high-table n1 n2 n3 a d1 p1 d2 p2 d3 p3) ≡ high n1 n2 n3 a d1 p1 d2 p2 d3 p3
+pub high-is : (n1 n2 n3 : ℕ) (a : Table) (d1 m1 d2 m2 d3 m3 : ℕ)
+    → greatest-of n1 n2 n3 (high-table n1 n2 n3 a d1 m1 d2 m2 d3 m3) ≡ high n1 n2 n3 a d1 m1 d2 m2 d3 m3
 unfolding high
-high-is n1 n2 n3 a d1 p1 d2 p2 d3 p3 = refl
+high-is n1 n2 n3 a d1 m1 d2 m2 d3 m3 = refl
 
 pub slack-sizes : (n1 n2 n3 : ℕ) (a : Table) (d1 d2 d3 : ℕ) → slack n1 n2 n3 a d1 d2 d3
     ≡ pos 1 +ℤ (loss n1 d1 (weighed n1 n2 n3 (sizes a) pairs ones ones) +ℤ (loss n2 d2 (weighed n1 n2 n3 (sizes a) ones pairs ones) +ℤ loss n3 d3 (weighed n1 n2 n3 (sizes a) ones ones pairs)))
@@ -80,9 +80,9 @@ unfoldable pub unit : ℕ → ℕ → ℕ → ℕ → ℕ → ℕ → ℕ
 unit n1 n2 n3 d1 d2 d3 = 2 ^ (n3 * d3) * (2 ^ (n2 * d2) * (2 ^ (n1 * d1) * (factorial n1 * (factorial n2 * factorial n3))))
 
 abbrev pub exact : ℕ → ℕ → ℕ → Table → ℕ → ℕ → ℕ → ℕ → ℕ → ℕ → Table
-exact n1 n2 n3 a d1 p1 d2 p2 d3 p3 j1 j2 j3 = weighed n1 n2 n3 a (piece n1 d1 p1 j1) (piece n2 d2 p2 j2) (piece n3 d3 p3 j3)
+exact n1 n2 n3 a d1 m1 d2 m2 d3 m3 j1 j2 j3 = weighed n1 n2 n3 a (piece n1 d1 m1 j1) (piece n2 d2 m2 j2) (piece n3 d3 m3 j3)
 
-module _ (n1 n2 n3 : ℕ) (a : Table) (d1 p1 d2 p2 d3 p3 : ℕ) where
+module _ (n1 n2 n3 : ℕ) (a : Table) (d1 m1 d2 m2 d3 m3 : ℕ) where
   first-near : (j1 j2 j3 : ℕ) → Near 2 (factorial n1 * (factorial n2 * factorial n3)) (first quot-down n1 n2 n3 a j1 j2 j3)
       (weighed n1 n2 n3 a (weights n1 j1) (weights n2 j2) (weights n3 j3))
   first-near j1 j2 j3 =
@@ -92,21 +92,21 @@ module _ (n1 n2 n3 : ℕ) (a : Table) (d1 p1 d2 p2 d3 p3 : ℕ) where
       (rounded F z (mul-pos (factorial-pos n1) (mul-pos (factorial-pos n2) (factorial-pos n3))))
 
   pub table-near : (j1 j2 j3 : ℕ) → j1 ≤ n1 → j2 ≤ n2 → j3 ≤ n3
-      → Near (((2 + n1 * d1) + n2 * d2) + n3 * d3) (unit n1 n2 n3 d1 d2 d3) (low-table n1 n2 n3 a d1 p1 d2 p2 d3 p3 j1 j2 j3) (exact n1 n2 n3 a d1 p1 d2 p2 d3 p3 j1 j2 j3)
+      → Near (((2 + n1 * d1) + n2 * d2) + n3 * d3) (unit n1 n2 n3 d1 d2 d3) (low-table n1 n2 n3 a d1 m1 d2 m2 d3 m3 j1 j2 j3) (exact n1 n2 n3 a d1 m1 d2 m2 d3 m3 j1 j2 j3)
   unfolding unit
   table-near j1 j2 j3 h1 h2 h3 =
       let F : ℕ = factorial n1 * (factorial n2 * factorial n3) in
       let W1 : ℕ = 2 ^ (n1 * d1) * F in
       let W2 : ℕ = 2 ^ (n2 * d2) * W1 in
-      let T1 : Table = λ i x2 x3. deep (kept mean-down n1) d1 p1 (λ x1. first quot-down n1 n2 n3 a x1 x2 x3) i in
-      let T2 : Table = λ i j x3. deep (kept mean-down n2) d2 p2 (λ x2. T1 i x2 x3) j in
-      let one : (x2 x3 : ℕ) → Near (2 + n1 * d1) W1 (T1 j1 x2 x3) (weighed n1 n2 n3 a (piece n1 d1 p1 j1) (weights n2 x2) (weights n3 x3)) =
-      λ x2 x3. stage 2 F n1 d1 p1 (λ x. weighed n1 n2 n3 a x (weights n2 x2) (weights n3 x3)) (linear1 n1 n2 n3 a (weights n2 x2) (weights n3 x3))
+      let T1 : Table = λ i x2 x3. deep (kept mean-down n1) d1 m1 (λ x1. first quot-down n1 n2 n3 a x1 x2 x3) i in
+      let T2 : Table = λ i j x3. deep (kept mean-down n2) d2 m2 (λ x2. T1 i x2 x3) j in
+      let one : (x2 x3 : ℕ) → Near (2 + n1 * d1) W1 (T1 j1 x2 x3) (weighed n1 n2 n3 a (piece n1 d1 m1 j1) (weights n2 x2) (weights n3 x3)) =
+      λ x2 x3. stage 2 F n1 d1 m1 (λ x. weighed n1 n2 n3 a x (weights n2 x2) (weights n3 x3)) (linear1 n1 n2 n3 a (weights n2 x2) (weights n3 x3))
       (λ x1. first quot-down n1 n2 n3 a x1 x2 x3) (λ x1 _. first-near x1 x2 x3) j1 h1 in
-      let two : (x3 : ℕ) → Near ((2 + n1 * d1) + n2 * d2) W2 (T2 j1 j2 x3) (weighed n1 n2 n3 a (piece n1 d1 p1 j1) (piece n2 d2 p2 j2) (weights n3 x3)) =
-      λ x3. stage (2 + n1 * d1) W1 n2 d2 p2 (λ y. weighed n1 n2 n3 a (piece n1 d1 p1 j1) y (weights n3 x3)) (linear2 n1 n2 n3 a (piece n1 d1 p1 j1) (weights n3 x3))
+      let two : (x3 : ℕ) → Near ((2 + n1 * d1) + n2 * d2) W2 (T2 j1 j2 x3) (weighed n1 n2 n3 a (piece n1 d1 m1 j1) (piece n2 d2 m2 j2) (weights n3 x3)) =
+      λ x3. stage (2 + n1 * d1) W1 n2 d2 m2 (λ y. weighed n1 n2 n3 a (piece n1 d1 m1 j1) y (weights n3 x3)) (linear2 n1 n2 n3 a (piece n1 d1 m1 j1) (weights n3 x3))
       (λ x2. T1 j1 x2 x3) (λ x2 _. one x2 x3) j2 h2 in
-      subst (λ l. Near (((2 + n1 * d1) + n2 * d2) + n3 * d3) (2 ^ (n3 * d3) * W2) l (exact n1 n2 n3 a d1 p1 d2 p2 d3 p3 j1 j2 j3))
-      (low-table-is n1 n2 n3 a d1 p1 d2 p2 d3 p3 j1 j2 j3)
-      (stage ((2 + n1 * d1) + n2 * d2) W2 n3 d3 p3 (λ z. weighed n1 n2 n3 a (piece n1 d1 p1 j1) (piece n2 d2 p2 j2) z)
-      (linear3 n1 n2 n3 a (piece n1 d1 p1 j1) (piece n2 d2 p2 j2)) (λ x3. T2 j1 j2 x3) (λ x3 _. two x3) j3 h3)
+      subst (λ l. Near (((2 + n1 * d1) + n2 * d2) + n3 * d3) (2 ^ (n3 * d3) * W2) l (exact n1 n2 n3 a d1 m1 d2 m2 d3 m3 j1 j2 j3))
+      (low-table-is n1 n2 n3 a d1 m1 d2 m2 d3 m3 j1 j2 j3)
+      (stage ((2 + n1 * d1) + n2 * d2) W2 n3 d3 m3 (λ z. weighed n1 n2 n3 a (piece n1 d1 m1 j1) (piece n2 d2 m2 j2) z)
+      (linear3 n1 n2 n3 a (piece n1 d1 m1 j1) (piece n2 d2 m2 j2)) (λ x3. T2 j1 j2 x3) (λ x3 _. two x3) j3 h3)

@@ -40,14 +40,14 @@ abbrev pub along3 : (Row → Row) → Table → Table
 along3 g T i j k = g (λ x. T i j x) k
 
 unfoldable pub halved : (ℤ → ℤ → ℤ) → ℕ → ℕ → ℕ → ℕ → ℕ → ℕ → ℕ → ℕ → ℕ → Table → Table
-halved f n1 n2 n3 d1 p1 d2 p2 d3 p3 T =
-    along3 (deep (kept f n3) d3 p3) (along2 (deep (kept f n2) d2 p2) (along1 (deep (kept f n1) d1 p1) T))
+halved f n1 n2 n3 d1 m1 d2 m2 d3 m3 T =
+    along3 (deep (kept f n3) d3 m3) (along2 (deep (kept f n2) d2 m2) (along1 (deep (kept f n1) d1 m1) T))
 
 unfoldable pub low-table : ℕ → ℕ → ℕ → Table → ℕ → ℕ → ℕ → ℕ → ℕ → ℕ → Table
-low-table n1 n2 n3 a d1 p1 d2 p2 d3 p3 = halved mean-down n1 n2 n3 d1 p1 d2 p2 d3 p3 (first quot-down n1 n2 n3 a)
+low-table n1 n2 n3 a d1 m1 d2 m2 d3 m3 = halved mean-down n1 n2 n3 d1 m1 d2 m2 d3 m3 (first quot-down n1 n2 n3 a)
 
 unfoldable pub high-table : ℕ → ℕ → ℕ → Table → ℕ → ℕ → ℕ → ℕ → ℕ → ℕ → Table
-high-table n1 n2 n3 a d1 p1 d2 p2 d3 p3 = halved mean-up n1 n2 n3 d1 p1 d2 p2 d3 p3 (first quot-up n1 n2 n3 a)
+high-table n1 n2 n3 a d1 m1 d2 m2 d3 m3 = halved mean-up n1 n2 n3 d1 m1 d2 m2 d3 m3 (first quot-up n1 n2 n3 a)
 
 -- ---- the enclosure
 
@@ -66,10 +66,10 @@ unfoldable pub greatest-of : ℕ → ℕ → ℕ → Table → ℤ
 greatest-of n1 n2 n3 T = greatest n1 λ i. greatest n2 λ j. greatest n3 λ k. T i j k
 
 unfoldable pub low : ℕ → ℕ → ℕ → Table → ℕ → ℕ → ℕ → ℕ → ℕ → ℕ → ℤ
-low n1 n2 n3 a d1 p1 d2 p2 d3 p3 = least-of n1 n2 n3 (low-table n1 n2 n3 a d1 p1 d2 p2 d3 p3)
+low n1 n2 n3 a d1 m1 d2 m2 d3 m3 = least-of n1 n2 n3 (low-table n1 n2 n3 a d1 m1 d2 m2 d3 m3)
 
 unfoldable pub high : ℕ → ℕ → ℕ → Table → ℕ → ℕ → ℕ → ℕ → ℕ → ℕ → ℤ
-high n1 n2 n3 a d1 p1 d2 p2 d3 p3 = greatest-of n1 n2 n3 (high-table n1 n2 n3 a d1 p1 d2 p2 d3 p3)
+high n1 n2 n3 a d1 m1 d2 m2 d3 m3 = greatest-of n1 n2 n3 (high-table n1 n2 n3 a d1 m1 d2 m2 d3 m3)
 
 -- ---- the slack
 

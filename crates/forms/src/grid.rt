@@ -67,10 +67,10 @@ pub(crate) fn halve_table(table: [i64; 64], m: &Mapping, c: &Cell, side: Side) -
     let [first, second, third] = m.degrees;
     let (n1, n2, n3) = (first as usize, second as usize, third as usize);
     let [d1, d2, d3] = c.shape.depths;
-    let [p1, p2, p3] = c.shape.places;
-    let table = halve_first(table, n1, (n2 + 1) * (n3 + 1), d1, p1, side);
-    let table = halve_first(table, n2, (n3 + 1) * (n1 + 1), d2, p2, side);
-    halve_first(table, n3, (n1 + 1) * (n2 + 1), d3, p3, side)
+    let [m1, m2, m3] = c.shape.places;
+    let table = halve_first(table, n1, (n2 + 1) * (n3 + 1), d1, m1, side);
+    let table = halve_first(table, n2, (n3 + 1) * (n1 + 1), d2, m2, side);
+    halve_first(table, n3, (n1 + 1) * (n2 + 1), d3, m3, side)
 }
 
 /// The outermost of the first `count` numbers of the table.
