@@ -45,9 +45,6 @@ cell-of-shape c s e = same-cell c (cell-of s) (subst (λ t. c .shape ≡ t) (sym
 pub box-valid : Valid box
 box-valid = valid-cell whole
 
-pub cell-of-box : cell-of box .shape ≡ box
-cell-of-box = cell-of-valid box box-valid
-
 -- the box holds every rational point
 pub in-box : (p : Point) → Rational p → In p box
 in-box p r v h =

@@ -1,17 +1,13 @@
--- The tables, the enclosure and the slack read only the coefficients a i j k with i ≤ n1, j ≤ n2, k ≤ n3. Assumes nothing.
-use mathlib.Core.Path.{_≡_, sym, ap, ap₂, _∙_}
-use Prim.Native.Nat.{ℕ, zero, suc, _*_, _≤_}
+-- Halving, the least and the greatest number read only the numbers of a row up to n, and of a table up to n1, n2, n3. Assumes nothing.
+use mathlib.Core.Path.{_≡_, ap₂}
+use Prim.Native.Nat.{ℕ, zero, suc, _≤_}
 use native.Mathlib.Omega.{arith}
-use lib.IntN.{ℤ, pos, natAbs, _+ℤ_}
-use Rattle.arith.specs.Rounding.{quot-down, quot-up}
+use lib.IntN.{ℤ}
 use Rattle.std.specs.Numbers.{minZ, maxZ}
-use Rattle.forms.specs.Choose.{factorial}
-use Rattle.forms.specs.Halving.{Row, mean-down, mean-up, kept, deep}
-use Rattle.forms.specs.Polynomial.{Table, weighed}
-use Rattle.forms.specs.Tables.{first, halved, low-table, high-table, least, greatest, least-of, greatest-of, low, high, sizes, pairs, ones, loss, slack}
+use Rattle.forms.specs.Halving.{Row, kept, deep}
+use Rattle.forms.specs.Polynomial.{Table}
+use Rattle.forms.specs.Tables.{halved, least, greatest, least-of, greatest-of}
 use Rattle.forms.proofs.Halving.{kept-keep, deep-keep}
-use Rattle.forms.proofs.Weighed.{weighed-reads}
-use Rattle.forms.proofs.Tables.{weights, first-is, low-is, high-is, slack-sizes}
 
 -- two tables with the same numbers up to n1, n2, n3
 abbrev pub Alike : ℕ → ℕ → ℕ → Table → Table → Type 0
@@ -23,12 +19,6 @@ kept-reads f n b r s h k l = kept-keep (λ x y. x ≡ y) f f (λ a b x y p q. ap
 pub deep-reads : (f : ℤ → ℤ → ℤ) (n d p : ℕ) (r s : Row) → ((k : ℕ) → k ≤ n → r k ≡ s k)
     → (k : ℕ) → k ≤ n → deep (kept f n) d p r k ≡ deep (kept f n) d p s k
 deep-reads f n d p r s h k l = deep-keep (λ d x y. x ≡ y) (kept f n) (kept f n) n (λ d b r s q i j. kept-reads f n b r s q i j) r s h d p k l
-
-pub first-reads : (q : ℤ → ℕ → ℤ) (n1 n2 n3 : ℕ) (a b : Table) → Alike n1 n2 n3 a b → (i j k : ℕ) → first q n1 n2 n3 a i j k ≡ first q n1 n2 n3 b i j k
-first-reads q n1 n2 n3 a b h i j k =
-    sym (first-is q n1 n2 n3 a i j k)
-    ∙ ap (λ z. q z (factorial n1 * (factorial n2 * factorial n3))) (weighed-reads n1 n2 n3 a b (weights n1 i) (weights n2 j) (weights n3 k) h)
-    ∙ first-is q n1 n2 n3 b i j k
 
 pub halved-reads : (f : ℤ → ℤ → ℤ) (n1 n2 n3 d1 m1 d2 m2 d3 m3 : ℕ) (S T : Table) → Alike n1 n2 n3 S T
     → Alike n1 n2 n3 (halved f n1 n2 n3 d1 m1 d2 m2 d3 m3 S) (halved f n1 n2 n3 d1 m1 d2 m2 d3 m3 T)
@@ -64,40 +54,3 @@ greatest-of-reads n1 n2 n3 S T h =
     greatest-reads n1 (λ i. greatest n2 λ j. greatest n3 (S i j)) (λ i. greatest n2 λ j. greatest n3 (T i j)) λ i il.
     greatest-reads n2 (λ j. greatest n3 (S i j)) (λ j. greatest n3 (T i j)) λ j jl.
     greatest-reads n3 (S i j) (T i j) λ k kl. h i j k il jl kl
-
-module _ (n1 n2 n3 : ℕ) (a b : Table) (h : Alike n1 n2 n3 a b) where
-  pub low-table-reads : (d1 m1 d2 m2 d3 m3 : ℕ) → Alike n1 n2 n3 (low-table n1 n2 n3 a d1 m1 d2 m2 d3 m3) (low-table n1 n2 n3 b d1 m1 d2 m2 d3 m3)
-  unfolding low-table
-  low-table-reads d1 m1 d2 m2 d3 m3 =
-      halved-reads mean-down n1 n2 n3 d1 m1 d2 m2 d3 m3 (first quot-down n1 n2 n3 a) (first quot-down n1 n2 n3 b) (λ i j k _ _ _. first-reads quot-down n1 n2 n3 a b h i j k)
-
-  pub high-table-reads : (d1 m1 d2 m2 d3 m3 : ℕ) → Alike n1 n2 n3 (high-table n1 n2 n3 a d1 m1 d2 m2 d3 m3) (high-table n1 n2 n3 b d1 m1 d2 m2 d3 m3)
-  unfolding high-table
-  high-table-reads d1 m1 d2 m2 d3 m3 =
-      halved-reads mean-up n1 n2 n3 d1 m1 d2 m2 d3 m3 (first quot-up n1 n2 n3 a) (first quot-up n1 n2 n3 b) (λ i j k _ _ _. first-reads quot-up n1 n2 n3 a b h i j k)
-
-  pub low-reads : (d1 m1 d2 m2 d3 m3 : ℕ) → low n1 n2 n3 a d1 m1 d2 m2 d3 m3 ≡ low n1 n2 n3 b d1 m1 d2 m2 d3 m3
-  low-reads d1 m1 d2 m2 d3 m3 =
-      sym (low-is n1 n2 n3 a d1 m1 d2 m2 d3 m3)
-      ∙ least-of-reads n1 n2 n3 (low-table n1 n2 n3 a d1 m1 d2 m2 d3 m3) (low-table n1 n2 n3 b d1 m1 d2 m2 d3 m3) (low-table-reads d1 m1 d2 m2 d3 m3)
-      ∙ low-is n1 n2 n3 b d1 m1 d2 m2 d3 m3
-
-  pub high-reads : (d1 m1 d2 m2 d3 m3 : ℕ) → high n1 n2 n3 a d1 m1 d2 m2 d3 m3 ≡ high n1 n2 n3 b d1 m1 d2 m2 d3 m3
-  high-reads d1 m1 d2 m2 d3 m3 =
-      sym (high-is n1 n2 n3 a d1 m1 d2 m2 d3 m3)
-      ∙ greatest-of-reads n1 n2 n3 (high-table n1 n2 n3 a d1 m1 d2 m2 d3 m3) (high-table n1 n2 n3 b d1 m1 d2 m2 d3 m3) (high-table-reads d1 m1 d2 m2 d3 m3)
-      ∙ high-is n1 n2 n3 b d1 m1 d2 m2 d3 m3
-
-  sizes-alike : Alike n1 n2 n3 (sizes a) (sizes b)
-  sizes-alike i j k l m o = ap (λ z. pos (natAbs z)) (h i j k l m o)
-
-  pub slack-reads : (d1 d2 d3 : ℕ) → slack n1 n2 n3 a d1 d2 d3 ≡ slack n1 n2 n3 b d1 d2 d3
-  slack-reads d1 d2 d3 =
-      slack-sizes n1 n2 n3 a d1 d2 d3
-      ∙ ap (λ s. pos 1 +ℤ (loss n1 d1 s +ℤ (loss n2 d2 (weighed n1 n2 n3 (sizes a) ones pairs ones) +ℤ loss n3 d3 (weighed n1 n2 n3 (sizes a) ones ones pairs))))
-      (weighed-reads n1 n2 n3 (sizes a) (sizes b) pairs ones ones sizes-alike)
-      ∙ ap (λ s. pos 1 +ℤ (loss n1 d1 (weighed n1 n2 n3 (sizes b) pairs ones ones) +ℤ (loss n2 d2 s +ℤ loss n3 d3 (weighed n1 n2 n3 (sizes a) ones ones pairs))))
-      (weighed-reads n1 n2 n3 (sizes a) (sizes b) ones pairs ones sizes-alike)
-      ∙ ap (λ s. pos 1 +ℤ (loss n1 d1 (weighed n1 n2 n3 (sizes b) pairs ones ones) +ℤ (loss n2 d2 (weighed n1 n2 n3 (sizes b) ones pairs ones) +ℤ loss n3 d3 s)))
-      (weighed-reads n1 n2 n3 (sizes a) (sizes b) ones ones pairs sizes-alike)
-      ∙ sym (slack-sizes n1 n2 n3 b d1 d2 d3)

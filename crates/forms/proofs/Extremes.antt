@@ -115,10 +115,3 @@ least-of-only n1 n2 n3 T z h r =
     let s = least-of-at n1 n2 n3 T in
     antisym (le-trans (h (s .i) (s .j) (s .k) (s .i-le) (s .j-le) (s .k-le)) (le-eq (sym (s .is))))
     (le-trans (least-of-le n1 n2 n3 T (r .i) (r .j) (r .k) (r .i-le) (r .j-le) (r .k-le)) (le-eq (sym (r .is))))
-
-pub greatest-of-only : (n1 n2 n3 : ℕ) (T : Table) (z : ℤ) → ((i j k : ℕ) → i ≤ n1 → j ≤ n2 → k ≤ n3 → T i j k ≤ℤ z) → Reached n1 n2 n3 T z
-    → z ≡ greatest-of n1 n2 n3 T
-greatest-of-only n1 n2 n3 T z h r =
-    let s = greatest-of-at n1 n2 n3 T in
-    antisym (le-trans (le-eq (r .is)) (greatest-of-le n1 n2 n3 T (r .i) (r .j) (r .k) (r .i-le) (r .j-le) (r .k-le)))
-    (le-trans (le-eq (s .is)) (h (s .i) (s .j) (s .k) (s .i-le) (s .j-le) (s .k-le)))

@@ -1,5 +1,5 @@
 -- The Bernstein form of a polynomial in three inputs on a cell: its tables, its enclosure and its slack. A cell is given by a depth d
--- and a place p for each input; the polynomial by its degrees n1, n2, n3 and its coefficients a.
+-- and a place m for each input; the polynomial by its degrees n1, n2, n3 and its coefficients a.
 --     numerator …        the Bernstein coefficient at j1, j2, j3 on the whole box, times n1! · n2! · n3!
 --     first q …          the table of the Bernstein coefficients on the whole box, each rounded once by q
 --     along1 g T         T with g applied to each of its rows along input 1; along2 and along3 are the same for inputs 2 and 3

@@ -102,15 +102,6 @@ same-bytes (a ∷ cs) (b ∷ bs) p q l e =
     let f = same-fields 8 a b (bits-of cs) (bits-of bs) (p .0) (q .0) (sym (bits-of-cons a cs) ∙ e ∙ bits-of-cons b bs) in
     ap (λ x. x ∷ cs) (f .0) ∙ ap (λ r. b ∷ r) (same-bytes cs bs (p .1) (q .1) (omega arith) (f .1))
 
--- the number in a field that is found behind p bits
-pub field-is : (bs pre post : List ℕ) (p k v : ℕ) → bits-of bs ≡ pre ++ (spell k v ++ post) → length pre ≡ p → v < 2 ^ k → field bs p k ≡ v
-unfolding field
-field-is bs pre post p k v e l h =
-    ap (λ b. number (take k (drop p b))) e
-    ∙ ap (λ b. number (take k b)) (drop-at pre (spell k v ++ post) p l)
-    ∙ ap number (take-at (spell k v) post k (length-spell k v))
-    ∙ number-spell k v h
-
 -- the bytes of a number, the most significant first
 abbrev pub bytes-of : ℕ → ℕ → List ℕ
 bytes-of zero v = []
