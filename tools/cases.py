@@ -49,10 +49,10 @@ def form_cases():
 
 
 def calls(text):
-    """Calls such as H0,1 C2 P0,3 R as bytes."""
+    """Calls such as H:0,1 C:2 P:0,3 R as bytes: the code, then region and argument."""
     out = b""
     for word in text.split():
-        numbers = [int(x) for x in word[1:].split(",")] if word[1:] else []
+        numbers = [int(x) for x in word[2:].split(",")] if word[2:] else []
         out += bytes([ord(word[0])] + (numbers + [0, 0])[:2])
     return out
 
@@ -64,7 +64,7 @@ def spread(depths, count):
         i = depths.index(min(depths))
         depths[i] += 1
         depths.append(depths[i])
-        text += "H%d,1 " % i
+        text += "H:%d,1 " % i
     return text
 
 
@@ -75,7 +75,7 @@ def whole(mapping, text):
 
 def job_cases():
     # the hump: open, halved, cleared twice, then nothing is left
-    yield whole(HUMP, "H0,1 R C0 C0 C0")
+    yield whole(HUMP, "H:0,1 R C:0 C:0 C:0")
     # length bytes cut short, length bytes alone, a record of length 0, a record cut short
     yield b""
     yield b"\0"
@@ -90,40 +90,40 @@ def job_cases():
     for first in (b"\x25\0\0", b"\x10\0\0", b"\x14\x10\0", b"\x14\0\1", b"\x1f\xfe\0", b"\x14\x80\0\0"):
         yield struct.pack(">H", len(first)) + first + calls("R")
     # calls: unknown codes, calls cut short, bytes that are not needed
-    yield whole(HUMP, "X0,0 h0,1 R7,9 C0,200 R") + b"H"
+    yield whole(HUMP, "X:0,0 h:0,1 R:7,9 C:0,200 R") + b"H"
     yield whole(HUMP, "R") + b"H\0"
     # each refusal alone and each pair in order
-    yield whole(HUMP, "H1,1 H1,9 H0,0 H0,2 H0,255 C1 C0 P1,0 P1,9 P0,2 P0,255 R")
-    yield whole(HUMP, "H0,1 " * 9 + "R H0,1 H0,1 H0,2 H11,1 R")
+    yield whole(HUMP, "H:1,1 H:1,9 H:0,0 H:0,2 H:0,255 C:1 C:0 P:1,0 P:1,9 P:0,2 P:0,255 R")
+    yield whole(HUMP, "H:0,1 " * 9 + "R H:0,1 H:0,1 H:0,2 H:11,1 R")
     # depth 10 with 64 open regions: 21, 22, 23 and 24 in their order
-    deep = "H0,1 " * 10 + spread([10, 1, 2, 3, 4, 5, 6, 7, 8, 9, 10], 64)
-    yield whole(HUMP, deep + "H0,1 H5,1 H5,2 H0,2 H64,1 H64,2 R C3 H5,1 H5,1 R")
+    deep = "H:0,1 " * 10 + spread([10, 1, 2, 3, 4, 5, 6, 7, 8, 9, 10], 64)
+    yield whole(HUMP, deep + "H:0,1 H:5,1 H:5,2 H:0,2 H:64,1 H:64,2 R C:3 H:5,1 H:5,1 R")
     # the 64th region, a 65th, and after one clear it can
-    yield whole(HUMP, spread([0], 63) + "R H40,1 H3,1 R C0 H3,1 H3,1 R")
+    yield whole(HUMP, spread([0], 63) + "R H:40,1 H:3,1 R C:0 H:3,1 H:3,1 R")
     # clear moves the last region into the gap
-    yield whole(RAMP, "H0,1 H0,1 H1,1 P0,1 C0 P0,0 P0,1 C0 P0,1 R")
+    yield whole(RAMP, "H:0,1 H:0,1 H:1,1 P:0,1 C:0 P:0,0 P:0,1 C:0 P:0,1 R")
     # a witness, after which fits can no longer come; a second one does not replace it
-    yield whole(RAMP, "P0,1 R H0,1 C0 P0,1 H0,1 P1,1 R")
-    yield whole(RAMP, "P0,0 P0,1 H0,1 P1,1 P1,0 C0 R")
+    yield whole(RAMP, "P:0,1 R H:0,1 C:0 P:0,1 H:0,1 P:1,1 R")
+    yield whole(RAMP, "P:0,0 P:0,1 H:0,1 P:1,1 P:1,0 C:0 R")
     # ends that only touch the register are no witness
-    yield whole(Mapping((1,), (0, 255)), "P0,1 P0,0 R C0 R")
-    yield whole(Mapping((1,), (0, 256)), "P0,1 R")
-    yield whole(Mapping((1,), (0, -1)), "P0,1 R")
+    yield whole(Mapping((1,), (0, 255)), "P:0,1 P:0,0 R C:0 R")
+    yield whole(Mapping((1,), (0, 256)), "P:0,1 R")
+    yield whole(Mapping((1,), (0, -1)), "P:0,1 R")
     # the lower half keeps the low end; a half that sticks out keeps its parent's end
-    yield whole(DIP, "H0,1 R P0,0 P1,1 R")
-    yield whole(SKEW, "H0,2 H1,1 H1,1 R P1,3 R")
+    yield whole(DIP, "H:0,1 R P:0,0 P:1,1 R")
+    yield whole(SKEW, "H:0,2 H:1,1 H:1,1 R P:1,3 R")
     # a witness of two inputs, and of three
-    yield whole(Mapping((1, 1), (0, 0, 0, 300)), "H0,1 H0,2 P1,0 P1,3 P1,2 R")
-    yield whole(Mapping((1, 1, 1), (0,) * 7 + (70000,), kind=2, shift=0), "H0,3 P1,7 P0,7 R")
+    yield whole(Mapping((1, 1), (0, 0, 0, 300)), "H:0,1 H:0,2 P:1,0 P:1,3 P:1,2 R")
+    yield whole(Mapping((1, 1, 1), (0,) * 7 + (70000,), kind=2, shift=0), "H:0,3 P:1,7 P:0,7 R")
     # inputs 0 and s + 1
-    yield whole(TWIST, "H0,0 H0,3 H0,1 H0,2 P0,4 P0,3 R")
+    yield whole(TWIST, "H:0,0 H:0,3 H:0,1 H:0,2 P:0,4 P:0,3 R")
     # three inputs, all 64 regions
     cube = Mapping((3, 3, 3), [(-1) ** k * k * 1000 for k in range(64)], kind=3, shift=4)
-    rounds = "".join("H%d,%d " % (i, r % 3 + 1) for r in range(6) for i in range(2**r))
-    yield whole(cube, rounds + "R H0,1 P63,7 C5 R C6 R H1,2 R")
+    rounds = "".join("H:%d,%d " % (i, r % 3 + 1) for r in range(6) for i in range(2**r))
+    yield whole(cube, rounds + "R H:0,1 P:63,7 C:5 R C:6 R H:1,2 R")
     # a present input of degree 0, registers with shifts, extreme coefficients
-    yield whole(Mapping((0, 2, 0), (5, -9, 4), inputs=3, kind=1), "H0,3 H0,1 R C0 C0 C0 R")
-    yield whole(extreme((7, 7), kind=3, shift=15), "H0,1 H0,2 P0,0 P1,3 R C0 R")
+    yield whole(Mapping((0, 2, 0), (5, -9, 4), inputs=3, kind=1), "H:0,3 H:0,1 R C:0 C:0 C:0 R")
+    yield whole(extreme((7, 7), kind=3, shift=15), "H:0,1 H:0,2 P:0,0 P:1,3 R C:0 R")
     source = random.Random(5)
     for _ in range(150):
         degrees = source.choice(((1,), (2,), (3,), (7,), (1, 1), (2, 2), (3, 1), (1, 1, 1), (2, 1, 2), (0, 2)))
