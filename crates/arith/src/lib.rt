@@ -1,4 +1,5 @@
 //! Whole-number arithmetic that rounds in a known direction: quotients rounded down or up, and the product of an enclosure by a factor.
+#![tactic(auto)]
 
 mod factor;
 mod product;

@@ -1,4 +1,6 @@
 // How a question is pursued: the open regions of a mapping's input box, the calls on them, and what is reported.
+#![tactic(auto)]
+
 mod answers;
 pub mod call;
 mod clearing;

@@ -1,5 +1,7 @@
 //! Mappings and cells read from standard input, and what each form answers. A case is two length bytes, a record, a depth for
 //! each input, and a place for each input in two bytes.
+#![tactic(auto)]
+
 use forms::answer::Answer;
 use forms::bernstein::Bernstein;
 use forms::form::Form;

@@ -1,4 +1,5 @@
 //! How a cell is enclosed: what an enclosure form is, and the forms there are.
+#![tactic(auto)]
 
 pub mod answer;
 pub mod bernstein;

@@ -1,4 +1,5 @@
 //! Bytes in, lines out: what the program does with its input.
+#![tactic(auto)]
 
 pub mod answer;
 mod calls;

@@ -1,4 +1,6 @@
 //! Jobs read from standard input, each behind two length bytes, and the text of each answer, with a line of one dot behind it.
+#![tactic(auto)]
+
 use job::text::respond;
 use std::io::Read;
 

@@ -1,4 +1,6 @@
 // What is checked: mappings, the cells of their input box, registers, and the record that a mapping comes in.
+#![tactic(auto)]
+
 pub mod bits;
 pub mod boxes;
 pub mod cell;

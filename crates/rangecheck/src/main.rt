@@ -1,4 +1,6 @@
 //! The range checker's program: a job from standard input, its answers to standard output.
+#![tactic(auto)]
+
 use job::load::MOST_INPUT;
 use job::text::respond;
 use std::alloc::Global;

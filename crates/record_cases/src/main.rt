@@ -1,4 +1,6 @@
 //! Records read from standard input, each behind two length bytes, and what becomes of each.
+#![tactic(auto)]
+
 use mapping::mapping::Mapping;
 use mapping::record::read;
 use mapping::writer::write;

@@ -1,4 +1,6 @@
 //! An enquiry by hand, from the opening to the close: a ramp from 0 to 300 that leaves an 8-bit register.
+#![tactic(auto)]
+
 use enquiry::closed::Closed;
 use enquiry::enquiry::Enquiry;
 use forms::bernstein::Bernstein;
