@@ -13,8 +13,8 @@ high_small f = small f.high f.depth f.within f.shallow
 low_small : (f : Factor) → f.low ≤ 2 ^ 15
 low_small f = omega (arith, f.ordered, high_small f)
 
-pub overflow-mul-result : goal.overflow-mul-result
-overflow-mul-result c =
+pub overflow_mul-result : goal.overflow_mul-result
+overflow_mul-result c =
     let by = c.args.by in
     elim c.if-low-lt0.branch [
       | then-low-lt0 w ↦ chosen_fits c.args.low _ c.from-most.result by.high c.requires c.ranges.low (high_small by) w.numerator-is c.from-most.ensures

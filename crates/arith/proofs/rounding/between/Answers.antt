@@ -20,8 +20,8 @@ cut c =
     false≢true (sym c.if-whole.false ∙ c.divided-down.ensures.whole.1 (ap (λ x. nat_abs x % c.args.m.value) z_is ∙ e)) in
     omega (arith, some)
 
-pub overflow-add-result : goal.overflow-add-result
-overflow-add-result c =
+pub overflow_add-result : goal.overflow_add-result
+overflow_add-result c =
     let down = back c.args.m.value c.ranges.z c.divided-down.ensures.down in
     next_fits c.ranges.z c.args.m.ok down (cut c)
 

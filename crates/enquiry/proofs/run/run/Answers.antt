@@ -23,7 +23,7 @@ loop-call-preserved g c =
           c.loop-call-test.true (ap g.F.Form.meaning inv.0) inv.1 inv.2 (view c.answer.new.self) c.answer.ensures.after,
       replies_next (g.F.Form.meaning start.form) (g.F.Form.meaning now.form) start.mapping now.mapping (view start) (view now) calls c.loop-call.call-index _
           c.loop-call-test.true (ap g.F.Form.meaning inv.0) inv.1 inv.2
-          (vec_items c.loop-call.replies) (vec_items c.push.new.self) c.answer.result inv.3 c.in-ok-push.ensures.items c.answer.ensures.value,
+          (vec_items c.loop-call.replies) (vec_items c.push.new.self) c.answer.result inv.3 c.in_ok-push.ensures.items c.answer.ensures.value,
     )
 
 pub returns : goal.returns

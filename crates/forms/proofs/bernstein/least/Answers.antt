@@ -12,7 +12,7 @@ pub loop-x-preserved : goal.loop-x-preserved
 loop-x-preserved c =
     let items = take (c.args.count - 1) (drop 1 c.args.table.now) in
     let fits : SFits w64 (numbers items c.loop-x.x-index) = search rules in
-    item_more c.loop-x.x-index c.smaller-end.result _ _ items fits (record { sfits = c.smaller-end.type-inv }) c.smaller-end.ensures.value c.loop-x.invariant
+    item_more c.loop-x.x-index c.smaller-end.result _ _ items fits (record { sfits = c.smaller-end.type_inv }) c.smaller-end.ensures.value c.loop-x.invariant
 
 pub returns : goal.returns
 returns c =

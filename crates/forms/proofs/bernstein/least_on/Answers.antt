@@ -13,13 +13,13 @@ use Rattle.forms.proofs.bernstein.least_on.Goals as goal
 pub returns : goal.returns
 returns c =
     let m = c.args.m.now in
-    let ys = c.halve-table.new.table in
+    let ys = c.halve_table.new.table in
     let some : 0 < terms m.degrees = omega (arith, c.terms.ensures.value) in
-    let read = to_z-of_z w64 c.least.result (record { sfits = c.least.type-inv }) in
+    let read = to_z-of_z w64 c.least.result (record { sfits = c.least.type_inv }) in
     let is = read ∙ c.least.ensures.value in
     record {
       value =
           is ∙ ap (λ n. least (n - 1) (numbers ys)) c.terms.ensures.value
-          ∙ least_flat m.degrees (numbers ys) (on_cell m c.args.c.now (grid m.degrees c.args.table.now)) some c.halve-table.ensures.value;
-      size = subst (Within summable) (sym is) (least_within summable (c.terms.result - 1) ys c.halve-table.ensures.size);
+          ∙ least_flat m.degrees (numbers ys) (on_cell m c.args.c.now (grid m.degrees c.args.table.now)) some c.halve_table.ensures.value;
+      size = subst (Within summable) (sym is) (least_within summable (c.terms.result - 1) ys c.halve_table.ensures.size);
     }

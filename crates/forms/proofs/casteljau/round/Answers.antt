@@ -15,7 +15,7 @@ loop-k-preserved c =
     let row = c.loop-k.row in
     let inv = c.loop-k.invariant in
     let len : k < length row = omega (arith, inv.0) in
-    let fits : SFits w64 c.mean.result = record { sfits = c.mean.type-inv } in
+    let fits : SFits w64 c.mean.result = record { sfits = c.mean.type_inv } in
     let read : to_z w64 (of_z w64 c.mean.result) ≡ c.mean.result = to_z-of_z w64 c.mean.result fits in
     let is : to_z w64 (of_z w64 c.mean.result) ≡ mean_down (numbers c.args.row k) (numbers c.args.row (k + 1)) =
     read ∙ c.mean.ensures.value

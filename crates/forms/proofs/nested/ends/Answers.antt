@@ -5,8 +5,8 @@ use Rattle.forms.proofs.Working.{low_of_kept, high_of_kept}
 use Rattle.forms.proofs.Inputs.{room_3, room_2, small_3, small_2, small_1, worked_off, low_over, high_over}
 use Rattle.forms.proofs.nested.ends.Goals as goal
 
-pub work-off-requires : goal.work-off-requires
-work-off-requires c =
+pub work_off-requires : goal.work_off-requires
+work_off-requires c =
     let m = c.args.m.now in
     record {
       room = room_3 m;
@@ -15,29 +15,29 @@ work-off-requires c =
       high = small_3 m c.new-table.result.high c.new-table.ensures.high;
     }
 
-pub work-off-requires-2 : goal.work-off-requires-2
-work-off-requires-2 c =
+pub work_off-requires-2 : goal.work_off-requires-2
+work_off-requires-2 c =
     let m = c.args.m.now in
     let f = get_or c.args.by 2 c.index-by-2.result in
     record {
       room = room_2 m;
       degree = m.low 1 (lit< tt);
-      low = small_2 m c.new-table.result.low c.new-table.ensures.low (low_of f) (low_of_kept f) c.work-off.new.self.low c.work-off.ensures.low;
-      high = small_2 m c.new-table.result.high c.new-table.ensures.high (high_of f) (high_of_kept f) c.work-off.new.self.high c.work-off.ensures.high;
+      low = small_2 m c.new-table.result.low c.new-table.ensures.low (low_of f) (low_of_kept f) c.work_off.new.self.low c.work_off.ensures.low;
+      high = small_2 m c.new-table.result.high c.new-table.ensures.high (high_of f) (high_of_kept f) c.work_off.new.self.high c.work_off.ensures.high;
     }
 
-pub work-off-requires-3 : goal.work-off-requires-3
-work-off-requires-3 c =
+pub work_off-requires-3 : goal.work_off-requires-3
+work_off-requires-3 c =
     let m = c.args.m.now in
     let f = get_or c.args.by 2 c.index-by-2.result in
     let g = get_or c.args.by 1 c.index-by-1.result in
     record {
       room = omega (arith, m.low 0 (lit< tt));
       degree = m.low 0 (lit< tt);
-      low = small_1 m c.new-table.result.low c.new-table.ensures.low (low_of f) (low_of_kept f) c.work-off.new.self.low c.work-off.ensures.low
-          (low_of g) (low_of_kept g) c.work-off-2.new.self.low c.work-off-2.ensures.low;
-      high = small_1 m c.new-table.result.high c.new-table.ensures.high (high_of f) (high_of_kept f) c.work-off.new.self.high c.work-off.ensures.high
-          (high_of g) (high_of_kept g) c.work-off-2.new.self.high c.work-off-2.ensures.high;
+      low = small_1 m c.new-table.result.low c.new-table.ensures.low (low_of f) (low_of_kept f) c.work_off.new.self.low c.work_off.ensures.low
+          (low_of g) (low_of_kept g) c.work_off-2.new.self.low c.work_off-2.ensures.low;
+      high = small_1 m c.new-table.result.high c.new-table.ensures.high (high_of f) (high_of_kept f) c.work_off.new.self.high c.work_off.ensures.high
+          (high_of g) (high_of_kept g) c.work_off-2.new.self.high c.work_off-2.ensures.high;
     }
 
 pub returns : goal.returns
@@ -51,12 +51,12 @@ returns c =
     let g_is : g ≡ get_or c.args.by 1 no_factor = get_or_default c.args.by 1 c.index-by-1.result no_factor (omega arith) in
     let h_is : h ≡ get_or c.args.by 0 no_factor = get_or_default c.args.by 0 c.index-by-0.result no_factor (omega arith) in
     record {
-      low = worked_off m c.new-table.result.low c.new-table.ensures.low (low_of f) (low_of_kept f) c.work-off.new.self.low c.work-off.ensures.low
-          (low_of g) (low_of_kept g) c.work-off-2.new.self.low c.work-off-2.ensures.low
-          (low_of h) (low_of_kept h) c.work-off-3.new.self.low c.work-off-3.ensures.low
+      low = worked_off m c.new-table.result.low c.new-table.ensures.low (low_of f) (low_of_kept f) c.work_off.new.self.low c.work_off.ensures.low
+          (low_of g) (low_of_kept g) c.work_off-2.new.self.low c.work_off-2.ensures.low
+          (low_of h) (low_of_kept h) c.work_off-3.new.self.low c.work_off-3.ensures.low
           ∙ low_over m c.args.by h g f h_is g_is f_is;
-      high = worked_off m c.new-table.result.high c.new-table.ensures.high (high_of f) (high_of_kept f) c.work-off.new.self.high c.work-off.ensures.high
-          (high_of g) (high_of_kept g) c.work-off-2.new.self.high c.work-off-2.ensures.high
-          (high_of h) (high_of_kept h) c.work-off-3.new.self.high c.work-off-3.ensures.high
+      high = worked_off m c.new-table.result.high c.new-table.ensures.high (high_of f) (high_of_kept f) c.work_off.new.self.high c.work_off.ensures.high
+          (high_of g) (high_of_kept g) c.work_off-2.new.self.high c.work_off-2.ensures.high
+          (high_of h) (high_of_kept h) c.work_off-3.new.self.high c.work_off-3.ensures.high
           ∙ high_over m c.args.by h g f h_is g_is f_is;
     }

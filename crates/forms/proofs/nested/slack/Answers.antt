@@ -12,8 +12,8 @@ some c = omega (arith, c.terms.ensures.value)
 few : (c : goal.After-share-3) → c.terms.result ≤ 64
 few c = omega (arith, c.terms.ensures.value, c.args.m.now.small)
 
-pub overflow-add-result-3 : goal.overflow-add-result-3
-overflow-add-result-3 c =
+pub overflow_add-result-3 : goal.overflow_add-result-3
+overflow_add-result-3 c =
     slack_fits c.terms.result c.share.result c.share-2.result c.share-3.result (some c) (few c)
     (c.share.ensures.least, c.share.ensures.most) (c.share-2.ensures.least, c.share-2.ensures.most) (c.share-3.ensures.least, c.share-3.ensures.most)
 

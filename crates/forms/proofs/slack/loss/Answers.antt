@@ -15,17 +15,17 @@ returns-in-None c = record {
 }
 
 module _ (c : After-up-by) where
-  sum : to_z w64 (of_z w64 c.up-by-power.result) +ℤ to_z w64 (of_z w64 c.up-by.result) ≡ loss c.args.n c.args.d (pos c.args.sum)
+  sum : to_z w64 (of_z w64 c.up_by_power.result) +ℤ to_z w64 (of_z w64 c.up_by.result) ≡ loss c.args.n c.args.d (pos c.args.sum)
   sum =
-      loss_word c.args.n c.args.d c.in-Some.divisor.value c.args.sum c.up-by-power.result c.up-by.result
+      loss_word c.args.n c.args.d c.in-Some.divisor.value c.args.sum c.up_by_power.result c.up_by.result
       (mul-le-mul c.requires.low c.requires.shallow) (c.in-Some.ensures ∙ divisor_is c.args.n c.args.d c.requires.low c.requires.shallow) c.in-Some.divisor.ok
-      c.requires.small (record { sfits = c.up-by-power.type-inv }) (record { sfits = c.up-by.type-inv }) c.up-by-power.ensures.value c.up-by.ensures.value
+      c.requires.small (record { sfits = c.up_by_power.type_inv }) (record { sfits = c.up_by.type_inv }) c.up_by_power.ensures.value c.up_by.ensures.value
 
   fits : SFits w64 (loss c.args.n c.args.d (pos c.args.sum))
   fits = loss_fits c.args.n c.args.d c.requires.low c.requires.shallow (pos c.args.sum) (pos_le (omega arith)) (pos_le c.requires.small)
 
-pub overflow-add-result : goal.overflow-add-result
-overflow-add-result c = subst (SFits w64) (sym (sum c)) (fits c)
+pub overflow_add-result : goal.overflow_add-result
+overflow_add-result c = subst (SFits w64) (sym (sum c)) (fits c)
 
 pub returns-in-Some : goal.returns-in-Some
 returns-in-Some c =

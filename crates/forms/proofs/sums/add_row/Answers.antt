@@ -7,13 +7,13 @@ use Rattle.forms.proofs.sums.add_row.Goals as goal
 pub loop-k-init : goal.loop-k-init
 loop-k-init c = (sym (total_none _), sym (total_none _))
 
-pub overflow-add-sum-in-loop-k : goal.overflow-add-sum-in-loop-k
-overflow-add-sum-in-loop-k c =
+pub overflow_add-sum-in-loop-k : goal.overflow_add-sum-in-loop-k
+overflow_add-sum-in-loop-k c =
     let most = sum_most c.args.weights.now c.args.numbers.now c.args.start c.args.degree c.requires.degree c.requires.light c.requires.small in
     omega (arith, c.loop-k.invariant.0, most c.loop-k.k (omega arith), c.requires.small c.loop-k.k (omega arith))
 
-pub overflow-add-weighed-in-loop-k : goal.overflow-add-weighed-in-loop-k
-overflow-add-weighed-in-loop-k c =
+pub overflow_add-weighed-in-loop-k : goal.overflow_add-weighed-in-loop-k
+overflow_add-weighed-in-loop-k c =
     let most = weighed_most c.args.weights.now c.args.numbers.now c.args.start c.args.degree c.requires.degree c.requires.light c.requires.small in
     let item = item_most c.args.weights.now c.args.numbers.now c.args.start c.args.degree c.requires.degree c.requires.light c.requires.small in
     omega (arith, c.loop-k.invariant.1, most c.loop-k.k (omega arith), item c.loop-k.k (omega arith))

@@ -21,8 +21,8 @@ loop-t-init c =
     let len : length xs ≡ 64 = search rules in
     (len, upto_none 0 (λ j. row_sum c.args.degree xs (j * (c.args.degree + 1))) (λ j. get_or xs j 0) xs (λ j. refl), sym (total_none _))
 
-pub add-row-sum-requires : goal.add-row-sum-requires
-add-row-sum-requires c = record {
+pub add_row-sum-requires : goal.add_row-sum-requires
+add_row-sum-requires c = record {
   room = row_inside c.args.weights.now c.args.numbers.now c.loop-t.numbers c.args.degree c.args.rows c.loop-t.t c.requires.degree
       c.loop-t-test.true c.requires.room c.requires.light c.requires.small c.loop-t.invariant.1;
   degree = c.requires.degree;
@@ -31,11 +31,11 @@ add-row-sum-requires c = record {
   light = c.requires.light;
 }
 
-pub overflow-add-all : goal.overflow-add-all
-overflow-add-all c =
+pub overflow_add-all : goal.overflow_add-all
+overflow_add-all c =
     let fits = all_fits c.args.weights.now c.args.numbers.now c.loop-t.numbers c.args.degree c.args.rows c.loop-t.t c.requires.degree
     c.loop-t-test.true c.requires.room c.requires.light c.requires.small c.loop-t.invariant.1
-    c.loop-t.all c.add-row-sum.result.1 c.loop-t.invariant.2 c.add-row-sum.ensures.weighed in
+    c.loop-t.all c.add_row-sum.result.1 c.loop-t.invariant.2 c.add_row-sum.ensures.weighed in
     omega arith
 
 pub loop-t-preserved : goal.loop-t-preserved
@@ -47,9 +47,9 @@ loop-t-preserved c =
     let inside : t < length ys = omega (arith, c.loop-t.invariant.0, c.loop-t-test.true, rows_fit c.args.rows n 64 c.requires.room) in
     let same = sum_same c.args.weights.now c.args.numbers.now c.loop-t.numbers c.args.degree c.args.rows c.loop-t.t c.requires.degree
     c.loop-t-test.true c.requires.room c.requires.light c.requires.small c.loop-t.invariant.1 in (
-      length-set ys t c.add-row-sum.result.0 ∙ c.loop-t.invariant.0,
-      upto_more 0 (λ j. row_sum n xs (j * (n + 1))) (λ j. get_or xs j 0) t ys c.add-row-sum.result.0 inside (c.add-row-sum.ensures.sum ∙ same) c.loop-t.invariant.1,
+      length-set ys t c.add_row-sum.result.0 ∙ c.loop-t.invariant.0,
+      upto_more 0 (λ j. row_sum n xs (j * (n + 1))) (λ j. get_or xs j 0) t ys c.add_row-sum.result.0 inside (c.add_row-sum.ensures.sum ∙ same) c.loop-t.invariant.1,
       all_more c.args.weights.now c.args.numbers.now c.loop-t.numbers c.args.degree c.args.rows c.loop-t.t c.requires.degree
           c.loop-t-test.true c.requires.room c.requires.light c.requires.small c.loop-t.invariant.1
-          c.loop-t.all c.add-row-sum.result.1 c.loop-t.invariant.2 c.add-row-sum.ensures.weighed,
+          c.loop-t.all c.add_row-sum.result.1 c.loop-t.invariant.2 c.add_row-sum.ensures.weighed,
     )

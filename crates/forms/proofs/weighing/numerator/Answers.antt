@@ -29,11 +29,11 @@ module _ (g : given.Over) (c : goal.After-weight g) where
 pub loop-i-init : goal.loop-i-init
 loop-i-init g c = sym (sum_none (weigh_term g.row.N c.args.j c.args.row.now c.requires.place))
 
-pub overflow-mul-sum : goal.overflow-mul-sum
-overflow-mul-sum g c = subst (SFits w64) (sym (item g c)) (fits_here g c)
+pub overflow_mul-sum : goal.overflow_mul-sum
+overflow_mul-sum g c = subst (SFits w64) (sym (item g c)) (fits_here g c)
 
-pub overflow-add-sum : goal.overflow-add-sum
-overflow-add-sum g c =
+pub overflow_add-sum : goal.overflow_add-sum
+overflow_add-sum g c =
     step_fits (weigh_term g.row.N c.args.j c.args.row.now c.requires.place) c.loop-i.i _ _ c.loop-i.invariant (item g c) (fits_here g c) (next_fits g c)
 
 pub loop-i-preserved : goal.loop-i-preserved

@@ -12,7 +12,7 @@ pub loop-j-preserved : goal.loop-j-preserved
 loop-j-preserved g c =
     let j = c.loop-j.j in
     let sums = c.loop-j.sums in
-    let fits : SFits w64 c.numerator.result = record { sfits = c.numerator.type-inv } in
+    let fits : SFits w64 c.numerator.result = record { sfits = c.numerator.type_inv } in
     let read = to_z-of_z w64 c.numerator.result fits in
     let len : j < length sums = omega (arith, c.loop-j.invariant.0, c.loop-j-test.true, c.requires.degree) in (
       simp length-set c.loop-j.invariant.0,

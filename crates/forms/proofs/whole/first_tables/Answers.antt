@@ -58,8 +58,8 @@ module _ (c : goal.After-struct-told-in-loop-index·1) where
   minus_within : Within summable (neg_ℤ (quot_up z F))
   minus_within = within_neg summable (quot_up z F) (within_up summable F z z_within)
 
-pub overflow-sub-mirrored : goal.overflow-sub-mirrored
-overflow-sub-mirrored c = subst (SFits w64) (sym (minus_is c)) (summable_fits (neg_ℤ (quot_up (z c) (F c))) (minus_within c))
+pub overflow_sub-mirrored : goal.overflow_sub-mirrored
+overflow_sub-mirrored c = subst (SFits w64) (sym (minus_is c)) (summable_fits (neg_ℤ (quot_up (z c) (F c))) (minus_within c))
 
 pub loop-index-preserved : goal.loop-index-preserved
 loop-index-preserved c =

@@ -11,14 +11,14 @@ returns-in-default c =
     record {
       value = (
         λ e. absurd (false≢true e),
-        λ all. absurd (c.in-default.ensures.value (subst Valid (sym c.shape-at.ensures.value) (all.valid c.loop-k.k c.loop-k-test.true))),
+        λ all. absurd (c.in-default.ensures.value (subst Valid (sym c.shape_at.ensures.value) (all.valid c.loop-k.k c.loop-k-test.true))),
       );
     }
 
 pub loop-k-preserved : goal.loop-k-preserved
 loop-k-preserved c =
     valid_more c.args.list.now c.loop-k.k c.loop-k.invariant
-    (subst Valid (c.in-Some.ensures.value ∙ c.shape-at.ensures.value) (valid_cell c.in-Some.field-0))
+    (subst Valid (c.in-Some.ensures.value ∙ c.shape_at.ensures.value) (valid_cell c.in-Some.field-0))
 
 pub returns : goal.returns
 returns c =

@@ -10,16 +10,16 @@ use Rattle.job.proofs.answer.answer.Goals as goal
 
 pub unreachable-requires : goal.unreachable-requires
 unreachable-requires c =
-    input_passed c.args.input.now c.in-Ok.ensures.value.0 c.in-Err-record-end.field-0 c.in-Err-record-end.ensures.value
+    input_passed c.args.input.now c.in-Ok.ensures.value.0 c.in-Err-record_end.field-0 c.in-Err-record_end.ensures.value
 
 pub returns : goal.returns
 returns c =
     let bs = c.args.input.now in
     let m = c.in-Ok.mapping in
     let loaded = c.in-Ok.ensures.value in
-    let end = c.in-Ok-record-end.end in
+    let end = c.in-Ok-record_end.end in
     let bytes = take (length bs - end) (drop end bs) in
-    let rest : bytes ≡ rest_part bs = take_rest bs end ∙ ap (λ n. drop n bs) c.in-Ok-record-end.ensures.value.1 in
+    let rest : bytes ≡ rest_part bs = take_rest bs end ∙ ap (λ n. drop n bs) c.in-Ok-record_end.ensures.value.1 in
     record {
       value =
           made_both c.run_lines.result

@@ -12,23 +12,23 @@ pub returns : goal.returns
 returns c =
     let m = c.args.mapping in
     let steps = steps_of c.args.bytes.now in
-    let t = c.in-ok-transcript.transcript in
-    let read : c.deref.result.now ≡ steps = c.deref.ensures.value ∙ c.in-ok-steps.ensures.value in
+    let t = c.in_ok-transcript.transcript in
+    let read : c.deref.result.now ≡ steps = c.deref.ensures.value ∙ c.in_ok-steps.ensures.value in
     let calls : c.deref-2.result.now ≡ valid steps =
-    c.deref-2.ensures.value ∙ c.in-ok-calls.ensures.value ∙ ap valid read in
-    let told : Transcribed ask m (valid steps) t = subst (λ cs. Transcribed ask m cs t) calls c.in-ok-transcript.ensures.value in
-    let again : c.deref-3.result.now ≡ steps = c.deref-3.ensures.value ∙ c.in-ok-steps.ensures.value in
+    c.deref-2.ensures.value ∙ c.in_ok-calls.ensures.value ∙ ap valid read in
+    let told : Transcribed ask m (valid steps) t = subst (λ cs. Transcribed ask m cs t) calls c.in_ok-transcript.ensures.value in
+    let again : c.deref-3.result.now ≡ steps = c.deref-3.ensures.value ∙ c.in_ok-steps.ensures.value in
     record {
       value =
-          lines_are m steps t told (vec_items c.push.new.self) (vec_items c.add-lines.new.lines) (vec_items c.push-2.new.self) c.last-line.result
-          (c.in-ok-push.ensures.items ∙ ap (λ ls. ls ++ (Range t.opening ∷ [])) c.new-lines.ensures.items)
-          (c.in-ok-add-lines.ensures.value refl
+          lines_are m steps t told (vec_items c.push.new.self) (vec_items c.add_lines.new.lines) (vec_items c.push-2.new.self) c.last_line.result
+          (c.in_ok-push.ensures.items ∙ ap (λ ls. ls ++ (Range t.opening ∷ [])) c.new-lines.ensures.items)
+          (c.in_ok-add_lines.ensures.value refl
           ∙ ap (λ ss. vec_items c.push.new.self ++ merged ss c.deref-4.result.now) again
           ∙ ap (λ rs. vec_items c.push.new.self ++ merged steps rs) c.deref-4.ensures.value)
-          c.last-line.ensures.value
-          c.in-ok-push-2.ensures.items;
+          c.last_line.ensures.value
+          c.in_ok-push-2.ensures.items;
       honest = (
-        honest_run m steps t told c.in-ok-transcript.ensures.honest,
-        subst (WitnessTrue m) told.closed c.in-ok-transcript.ensures.witness,
+        honest_run m steps t told c.in_ok-transcript.ensures.honest,
+        subst (WitnessTrue m) told.closed c.in_ok-transcript.ensures.witness,
       );
     }

@@ -10,7 +10,7 @@ loop-at-preserved c =
     let fits : i + 3 ≤ length bs = omega arith in
     let before = vec_items c.loop-at.steps in (
       fits,
-      ap (λ xs. xs ++ steps_of (drop (i + 3) bs)) c.in-ok-push.ensures.items
+      ap (λ xs. xs ++ steps_of (drop (i + 3) bs)) c.in_ok-push.ensures.items
           ∙ pushed_on before c.call_of.result (steps_of (drop (i + 3) bs))
           ∙ ap (λ x. before ++ (x ∷ steps_of (drop (i + 3) bs))) c.call_of.ensures.value
           ∙ ap (λ r. before ++ r) (sym (three_more bs i fits))
@@ -23,7 +23,7 @@ returns c =
     let i = c.loop-at.at in
     let some : 0 < length (drop i bs) = simp length-drop (omega arith) in
     let few : length (drop i bs) < 3 = simp length-drop (omega arith) in
-    record { value = c.in-ok-push-2.ensures.items ∙ ap (λ r. vec_items c.loop-at.steps ++ r) (sym (last_short (drop i bs) some few)) ∙ c.loop-at.invariant.1 }
+    record { value = c.in_ok-push-2.ensures.items ∙ ap (λ r. vec_items c.loop-at.steps ++ r) (sym (last_short (drop i bs) some few)) ∙ c.loop-at.invariant.1 }
 
 pub returns-then-at-bytes : goal.returns-then-at-bytes
 returns-then-at-bytes c =

@@ -3,7 +3,7 @@ use Rattle.std.proofs.lemmas.List.{drop_more, drop_all}
 use Rattle.job.specs.Calls.{valid}
 use Rattle.job.proofs.Steps.{call_joins}
 use Rattle.job.proofs.calls.valid_calls.Goals as goal
-use Rattle.job.proofs.calls.valid_calls.Goals.{in-Some+in-ok-push, in-None}
+use Rattle.job.proofs.calls.valid_calls.Goals.{in-Some+in_ok-push, in-None}
 
 pub loop-step-preserved : goal.loop-step-preserved
 loop-step-preserved c =
@@ -13,9 +13,9 @@ loop-step-preserved c =
     let before = vec_items c.loop-step.calls in
     let more = drop_more steps i None c.loop-step-test.true in
     elim c.match-step.branch [
-      | in-Some+in-ok-push w ↦
+      | in-Some+in_ok-push w ↦
           ap (λ v. vec_items v ++ valid rest) w.calls-is
-          ∙ ap (λ xs. xs ++ valid rest) w.in-ok-push.ensures.items
+          ∙ ap (λ xs. xs ++ valid rest) w.in_ok-push.ensures.items
           ∙ call_joins before w.in-Some.call rest
           ∙ ap (λ s. before ++ valid (s ∷ rest)) (sym w.in-Some.is)
           ∙ ap (λ r. before ++ valid r) (sym more)

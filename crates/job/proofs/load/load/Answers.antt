@@ -9,30 +9,30 @@ use Rattle.job.specs.declared.fault.LoadFault.TheVariants.{Record}
 use Rattle.job.proofs.Inputs.{input_refused, record_decides, part_is}
 use Rattle.job.proofs.load.load.Goals as goal
 
-pub returns-in-err-end : goal.returns-in-err-end
-returns-in-err-end c =
+pub returns-in_err-end : goal.returns-in_err-end
+returns-in_err-end c =
     let bs = c.args.input.now in
-    let p = err_from_is_err_and c.from-residual.result c.from-residual.ensures.1 in
-    let f = c.in-err-end.field-0.0 in
-    record { value = subst (Loaded bs) (sym (p.1 ∙ ap Err p.2)) (input_refused bs f c.in-err-end.ensures.value) }
+    let p = err_from_is_err_and c.from_residual.result c.from_residual.ensures.1 in
+    let f = c.in_err-end.field-0.0 in
+    record { value = subst (Loaded bs) (sym (p.1 ∙ ap Err p.2)) (input_refused bs f c.in_err-end.ensures.value) }
 
-pub returns-in-err-read : goal.returns-in-err-read
-returns-in-err-read c =
+pub returns-in_err-read : goal.returns-in_err-read
+returns-in_err-read c =
     let bs = c.args.input.now in
-    let end = c.in-ok-end.end in
-    let found = c.in-ok-end.ensures.value in
-    let p = err_from_is_err_and c.from-residual-in-err-read.result c.from-residual-in-err-read.ensures.1 in
-    let f = c.in-err-read.field-0.0 in
+    let end = c.in_ok-end.end in
+    let found = c.in_ok-end.ensures.value in
+    let p = err_from_is_err_and c.from_residual-in_err-read.result c.from_residual-in_err-read.ensures.1 in
+    let f = c.in_err-read.field-0.0 in
     let refused : record_fault (record_part bs) ≡ Some f =
-    sym (ap record_fault (part_is bs end found.1)) ∙ refused_from tt (record_fault (take (end - 2) (drop 2 bs))) f (sym c.in-err-read.ensures.value) in
+    sym (ap record_fault (part_is bs end found.1)) ∙ refused_from tt (record_fault (take (end - 2) (drop 2 bs))) f (sym c.in_err-read.ensures.value) in
     record { value = subst (Loaded bs) (sym (p.1 ∙ ap Err p.2)) (record_decides bs found.0 ∙ ap (option_map Record) refused) }
 
 pub returns : goal.returns
 returns c =
     let bs = c.args.input.now in
-    let end = c.in-ok-end.end in
-    let found = c.in-ok-end.ensures.value in
-    let got = c.in-ok-read.ensures in
+    let end = c.in_ok-end.end in
+    let found = c.in_ok-end.ensures.value in
+    let got = c.in_ok-read.ensures in
     let passed : record_fault (record_part bs) ≡ None =
     sym (ap record_fault (part_is bs end found.1)) ∙ passed_from tt tt (record_fault (take (end - 2) (drop 2 bs))) (sym got.value) in
     record { value = (record_decides bs found.0 ∙ ap (option_map Record) passed, sym (ap bits_of (part_is bs end found.1)) ∙ got.after) }

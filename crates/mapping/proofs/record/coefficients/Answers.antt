@@ -12,10 +12,10 @@ loop-k-init c = (refl, refl, omega arith, λ j h. zeros_at 64 j, λ j. zeros_nar
 pub loop-k-preserved : goal.loop-k-preserved
 loop-k-preserved c =
     let inv = c.loop-k.invariant in
-    let v = c.in-ok-take.field-0 in
-    let got = c.in-ok-take.ensures.value in
-    let x = to_z w32 (of_z w32 c.cast-signed.result) in
-    let is : x ≡ to_z w32 v = back_from_bits v c.cast-signed.result got.0 c.cast-signed.ensures in
+    let v = c.in_ok-take.field-0 in
+    let got = c.in_ok-take.ensures.value in
+    let x = to_z w32 (of_z w32 c.cast_signed.result) in
+    let is : x ≡ to_z w32 v = back_from_bits v c.cast_signed.result got.0 c.cast_signed.ensures in
     let room : c.loop-k.k < length c.loop-k.values = omega arith in (
       length-set c.loop-k.values c.loop-k.k x ∙ inv.0,
       values_more c.loop-k.values c.loop-k.k v x (unread c.args.bits.now) (unread c.loop-k.bits) (unread c.take.new.self) room got.0 is inv.1 got.1,

@@ -10,46 +10,46 @@ use Rattle.mapping.proofs.Spelling.{length_bits_of}
 use Rattle.mapping.proofs.RoundTrip.{record_parsed}
 use Rattle.mapping.proofs.record.parse.Goals as goal
 
-pub returns-in-err-header : goal.returns-in-err-header
-returns-in-err-header c =
-    let p = err_from_is_err_and c.from-residual.result c.from-residual.ensures.1 in
+pub returns-in_err-header : goal.returns-in_err-header
+returns-in_err-header c =
+    let p = err_from_is_err_and c.from_residual.result c.from_residual.ensures.1 in
     let bs = c.args.bytes.now in
-    let short : length (bits_of bs) < 24 = omega (arith, ap length c.new-bits.ensures.value, c.in-err-header.ensures.value) in
+    let short : length (bits_of bs) < 24 = omega (arith, ap length c.new-bits.ensures.value, c.in_err-header.ensures.value) in
     record { value = subst (Parsed bs) (sym (p.1 ∙ ap Err p.2)) (short_refused bs short) }
 
-pub returns-in-err-check : goal.returns-in-err-check
-returns-in-err-check c =
-    let p = err_from_is_err_and c.from-residual-in-err-check.result c.from-residual-in-err-check.ensures.1 in
+pub returns-in_err-check : goal.returns-in_err-check
+returns-in_err-check c =
+    let p = err_from_is_err_and c.from_residual-in_err-check.result c.from_residual-in_err-check.ensures.1 in
     let bs = c.args.bytes.now in
-    let h = c.in-ok-header.header in
-    let got = c.in-ok-header.ensures.value in
+    let h = c.in_ok-header.header in
+    let got = c.in_ok-header.ensures.value in
     let decides = header_decides bs (unread c.read.new.bits) h got.0 (sym c.new-bits.ensures.value ∙ got.1) in
-    let refused = refused_from tt _ c.in-err-check.field-0.0 (sym c.in-err-check.ensures.value) in
+    let refused = refused_from tt _ c.in_err-check.field-0.0 (sym c.in_err-check.ensures.value) in
     record { value = subst (Parsed bs) (sym (p.1 ∙ ap Err p.2)) (decides ∙ refused) }
 
 -- the length that was checked leaves enough bits for the coefficients
-pub returns-in-err-values : goal.returns-in-err-values
-returns-in-err-values c =
+pub returns-in_err-values : goal.returns-in_err-values
+returns-in_err-values c =
     let bs = c.args.bytes.now in
-    let h = c.in-ok-header.header in
-    let got = c.in-ok-header.ensures.value in
+    let h = c.in_ok-header.header in
+    let got = c.in_ok-header.ensures.value in
     let rest = unread c.read.new.bits in
     let bits : bits_of bs ≡ header_bits h ++ rest = sym c.new-bits.ensures.value ∙ got.1 in
-    let a = accepted_from h (length bs) (passed_from tt tt _ (sym c.in-ok-check.ensures.value)) in
+    let a = accepted_from h (length bs) (passed_from tt tt _ (sym c.in_ok-check.ensures.value)) in
     let long : length (bits_of bs) ≡ 24 + length rest = ap length bits ∙ length-append (header_bits h) rest ∙ ap (λ n. n + length rest) (length_header h) in
-    absurd (omega (arith, a.size, length_bits_of bs, c.count-terms.ensures.value, c.in-err-values.ensures.value))
+    absurd (omega (arith, a.size, length_bits_of bs, c.count_terms.ensures.value, c.in_err-values.ensures.value))
 
 pub returns : goal.returns
 returns c =
     let bs = c.args.bytes.now in
-    let h = c.in-ok-header.header in
-    let got = c.in-ok-header.ensures.value in
+    let h = c.in_ok-header.header in
+    let got = c.in_ok-header.ensures.value in
     let rest = unread c.read.new.bits in
     let bits : bits_of bs ≡ header_bits h ++ rest = sym c.new-bits.ensures.value ∙ got.1 in
-    let passed = passed_from tt tt _ (sym c.in-ok-check.ensures.value) in
+    let passed = passed_from tt tt _ (sym c.in_ok-check.ensures.value) in
     let a = accepted_from h (length bs) passed in
-    let values : rest ≡ value_bits (take (terms h.degrees) c.in-ok-values.values) ++ unread c.coefficients.new.bits =
-    c.in-ok-values.ensures.value.0 ∙ ap (λ n. value_bits (take n c.in-ok-values.values) ++ unread c.coefficients.new.bits) c.count-terms.ensures.value in
+    let values : rest ≡ value_bits (take (terms h.degrees) c.in_ok-values.values) ++ unread c.coefficients.new.bits =
+    c.in_ok-values.ensures.value.0 ∙ ap (λ n. value_bits (take n c.in_ok-values.values) ++ unread c.coefficients.new.bits) c.count_terms.ensures.value in
     record {
       value = (
         header_decides bs rest h got.0 bits ∙ passed,

@@ -15,7 +15,7 @@ returns c =
     let word = ((((((1 * 4 + m.inputs) * 8 + get_or m.degrees 0 0) * 8 + get_or m.degrees 1 0) * 8 + get_or m.degrees 2 0) * 8 + k) * 16 + m.shift) * 4 in
     record {
       bits =
-          ap (λ bs. bits_of (get_or bs 1 0 ∷ (get_or bs 2 0 ∷ (get_or bs 3 0 ∷ [])))) c.to-be-bytes.ensures
+          ap (λ bs. bits_of (get_or bs 1 0 ∷ (get_or bs 2 0 ∷ (get_or bs 3 0 ∷ [])))) c.to_be_bytes.ensures
           ∙ three_bytes word
           ∙ header_number m.inputs (get_or m.degrees 0 0) (get_or m.degrees 1 0) (get_or m.degrees 2 0) k m.shift
           fits.inputs fits.degree₁ fits.degree₂ fits.degree₃ (omega (arith, fits.kind)) fits.shift

@@ -14,11 +14,11 @@ loop-k-preserved c =
     let k = c.loop-k.k in
     let values = c.args.values.now in
     let x = get_or values k (pos 0) in
-    let bytes = c.to-be-bytes.result in
+    let bytes = c.to_be_bytes.result in
     let fits : SFits w32 x = search rules in
     let spelled : bits_of bytes ≡ spell 32 (of_z w32 x) =
-    ap bits_of c.to-be-bytes.ensures ∙ four_bytes (of_z w32 (to_z w32 (of_z w32 x))) ∙ ap (λ z. spell 32 (of_z w32 z)) (to_z-of_z w32 x fits) in
-    let four : length bytes ≡ 4 = ap length c.to-be-bytes.ensures in (
+    ap bits_of c.to_be_bytes.ensures ∙ four_bytes (of_z w32 (to_z w32 (of_z w32 x))) ∙ ap (λ z. spell 32 (of_z w32 z)) (to_z-of_z w32 x fits) in
+    let four : length bytes ≡ 4 = ap length c.to_be_bytes.ensures in (
       value_written (bits_of (take 3 c.args.out.now)) values k c.loop-k.out c.put.new.out bytes c.loop-k-test.true four spelled c.loop-k.invariant.0 c.put.ensures.front,
       rest_kept (bits_of (take 3 c.args.out.now)) values k c.loop-k.out c.put.new.out bytes c.loop-k-test.true four c.args.out.now c.loop-k.invariant.1 c.put.ensures.rest,
     )

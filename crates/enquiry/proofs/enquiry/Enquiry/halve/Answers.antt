@@ -4,11 +4,11 @@ use Rattle.enquiry.specs.Views.{view}
 use Rattle.enquiry.proofs.States.{halve_err, halve_ok}
 use Rattle.enquiry.proofs.enquiry.Enquiry.halve.Goals as goal
 
-pub returns-in-err-may-halve : goal.returns-in-err-may-halve
-returns-in-err-may-halve g c =
+pub returns-in_err-may_halve : goal.returns-in_err-may_halve
+returns-in_err-may_halve g c =
     let self = c.args.self.now in
-    let p = err_from_is_err_and c.from-residual.result c.from-residual.ensures.1 in
-    let refused = halve_err (g.F.Form.meaning self.form) self.mapping (view self) c.args.region c.args.input c.in-err-may-halve.field-0.0 c.in-err-may-halve.ensures.value in
+    let p = err_from_is_err_and c.from_residual.result c.from_residual.ensures.1 in
+    let refused = halve_err (g.F.Form.meaning self.form) self.mapping (view self) c.args.region c.args.input c.in_err-may_halve.field-0.0 c.in_err-may_halve.ensures.value in
     record {
       value = p.1 ∙ ap Err p.2 ∙ sym (ap (λ r. r.0) refused);
       after = sym (ap (λ r. r.1) refused);
@@ -20,7 +20,7 @@ returns g c =
     let self = c.args.self.now in
     let halved =
     halve_ok (g.F.Form.meaning self.form) self.mapping (view self) c.args.region c.args.input (view c.split.new.self) c.len.result
-    c.in-ok-may-halve.ensures.value c.split.ensures.after c.len.ensures.value in
+    c.in_ok-may_halve.ensures.value c.split.ensures.after c.len.ensures.value in
     record {
       value = ap (λ r. r.0) halved;
       after = ap (λ r. r.1) halved;

@@ -6,7 +6,7 @@ use Rattle.enquiry.proofs.enquiry.Enquiry.report.Goals as goal
 
 pub returns : goal.returns
 returns g c =
-    let a = c.unwrap-or-range.result in
+    let a = c.unwrap_or-range.result in
     let low : SFits w64 a.low = search rules in
     let high : SFits w64 a.high = search rules in
     let slack : SFits w64 a.slack = search rules in
@@ -14,5 +14,5 @@ returns g c =
       value =
           report_is c.args.self.now.mapping (view c.args.self.now) a c.hull.result _ _ _ c.verdict.result
           (to_z-of_z w64 _ low) (to_z-of_z w64 _ high) (to_z-of_z w64 _ slack) c.verdict.ensures.value
-          c.hull.ensures.value c.unwrap-or-range.ensures;
+          c.hull.ensures.value c.unwrap_or-range.ensures;
     }

@@ -4,7 +4,7 @@ use Rattle.enquiry.proofs.table.Table.hull.Goals as goal
 
 pub loop-i-preserved : goal.loop-i-preserved
 loop-i-preserved c =
-    c.join-on-all.ensures.value
+    c.join_on-all.ensures.value
     ∙ hull_more c.args.self.now c.args.cleared c.loop-i.all c.loop-i.i _ c.answer.result c.loop-i-test.true c.loop-i.invariant c.answer.ensures.value
 
 pub returns : goal.returns

@@ -14,13 +14,13 @@ times-l-requires c = record {
   high = so_far_tame (high_of c.args.by) (high_of_kept c.args.by) c.args.self.now.high c.args.start c.args.degree c.requires.degree c.requires.high c.loop-k.k _ c.loop-k.auto.k c.loop-k.invariant.1;
 }
 
-pub overflow-add-low-in-loop-k-2 : goal.overflow-add-low-in-loop-k-2
-overflow-add-low-in-loop-k-2 c =
+pub overflow_add-low-in-loop-k-2 : goal.overflow_add-low-in-loop-k-2
+overflow_add-low-in-loop-k-2 c =
     turn_fits (low_of c.args.by) (low_of_kept c.args.by) c.args.self.now.low c.args.start c.args.degree c.requires.degree c.requires.low
     c.loop-k.k _ c.times-l.result.0 c.loop-k-test.true c.loop-k.auto.k c.loop-k.invariant.0 c.times-l.ensures.low
 
-pub overflow-add-high-in-loop-k-2 : goal.overflow-add-high-in-loop-k-2
-overflow-add-high-in-loop-k-2 c =
+pub overflow_add-high-in-loop-k-2 : goal.overflow_add-high-in-loop-k-2
+overflow_add-high-in-loop-k-2 c =
     turn_fits (high_of c.args.by) (high_of_kept c.args.by) c.args.self.now.high c.args.start c.args.degree c.requires.degree c.requires.high
     c.loop-k.k _ c.times-l.result.1 c.loop-k-test.true c.loop-k.auto.k c.loop-k.invariant.1 c.times-l.ensures.high
 

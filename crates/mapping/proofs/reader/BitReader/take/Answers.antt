@@ -22,14 +22,18 @@ loop-held-preserved c =
       c.loop-held.invariant.3 ∙ fetch c.loop-held.held c.loop-held.window c.loop-held.fetched c.args.self.now.bytes.now c.if-fetched-self.false byte,
     )
 
-pub invariant-of-self : goal.invariant-of-self
-invariant-of-self c =
+pub invariant_of-self : goal.invariant_of-self
+invariant_of-self c =
     let left = c.loop-held.held - c.args.width in
     let m : bit_and c.loop-held.window ((1 * 2 ^ left) % 2 ^ 64 - 1) ≡ c.loop-held.window % 2 ^ left = mask c.loop-held.window left (omega arith) in
-    (c.loop-held.invariant.1, (omega arith, (subst (λ (n : ℕ). n < 2 ^ left) (sym m) (mod_below c.loop-held.window (2 ^ left) (pow_pos left)), tt)))
+    record {
+      within = c.loop-held.invariant.1;
+      few = omega arith;
+      clean = subst (λ (n : ℕ). n < 2 ^ left) (sym m) (mod_below c.loop-held.window (2 ^ left) (pow_pos left));
+    }
 
-pub overflow-cast-result : goal.overflow-cast-result
-overflow-cast-result c =
+pub overflow_cast-result : goal.overflow_cast-result
+overflow_cast-result c =
     let b = give_below c.loop-held.held c.loop-held.window c.args.width c.loop-held-test.false c.loop-held.invariant.2 in
     record { fits = lt_of_lt_of_le b (pow_mono c.requires) }
 
