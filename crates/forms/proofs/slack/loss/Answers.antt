@@ -5,7 +5,7 @@ use Rattle.forms.specs.Tables.{loss}
 use Rattle.forms.specs.Extra.{pos_le}
 use Rattle.forms.proofs.Losses.{divisor_is, loss_most, loss_fits, loss_none, loss_word}
 use Rattle.forms.proofs.slack.loss.Goals as goal
-use Rattle.forms.proofs.slack.loss.Goals.{After-up-by}
+use Rattle.forms.proofs.slack.loss.Goals.{After-up_by}
 
 pub returns-in-None : goal.returns-in-None
 returns-in-None c = record {
@@ -14,7 +14,7 @@ returns-in-None c = record {
   most = pos_le (omega arith);
 }
 
-module _ (c : After-up-by) where
+module _ (c : After-up_by) where
   sum : to_z w64 (of_z w64 c.up_by_power.result) +ℤ to_z w64 (of_z w64 c.up_by.result) ≡ loss c.args.n c.args.d (pos c.args.sum)
   sum =
       loss_word c.args.n c.args.d c.in-Some.divisor.value c.args.sum c.up_by_power.result c.up_by.result

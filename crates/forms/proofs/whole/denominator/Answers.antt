@@ -10,4 +10,4 @@ unreachable-requires c =
     let one : 0 < c.factorial.result = omega (arith, c.factorial.ensures.value, factorial_pos (degree m 0)) in
     let two : 0 < c.factorial-2.result = omega (arith, c.factorial-2.ensures.value, factorial_pos (degree m 1)) in
     let three : 0 < c.factorial-3.result = omega (arith, c.factorial-3.ensures.value, factorial_pos (degree m 2)) in
-    omega (arith, c.in-default.ensures, mul-pos one (mul-pos two three))
+    omega (arith, c.in_default.ensures, mul-pos one (mul-pos two three))

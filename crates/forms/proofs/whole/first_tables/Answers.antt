@@ -26,7 +26,7 @@ loop-index-init c = (
   all_zeros summable c.args.mirrored.now c.requires.high,
 )
 
-module _ (c : goal.After-struct-told-in-loop-index·1) where
+module _ (c : goal.After-struct_told-in-loop-index-1) where
   abbrev t : ℕ
   t = c.loop-index.index
 

@@ -6,7 +6,7 @@ use Rattle.gateway.proofs.enclosed.fill.Goals as goal
 
 pub unreachable-requires : goal.unreachable-requires
 unreachable-requires c =
-    c.in-default.ensures.value (subst Valid (sym c.shape_at.ensures.value) (c.requires.listed.valid c.loop-k.k c.loop-k-test.true))
+    c.in_default.ensures.value (subst Valid (sym c.shape_at.ensures.value) (c.requires.listed.valid c.loop-k.k c.loop-k-test.true))
 
 pub loop-k-preserved : goal.loop-k-preserved
 loop-k-preserved c =

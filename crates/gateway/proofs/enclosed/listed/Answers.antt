@@ -6,12 +6,12 @@ use Rattle.gateway.specs.Enclosing.{shape_at}
 use Rattle.gateway.proofs.Listing.{valid_more}
 use Rattle.gateway.proofs.enclosed.listed.Goals as goal
 
-pub returns-in-default : goal.returns-in-default
-returns-in-default c =
+pub returns-in_default : goal.returns-in_default
+returns-in_default c =
     record {
       value = (
         λ e. absurd (false≢true e),
-        λ all. absurd (c.in-default.ensures.value (subst Valid (sym c.shape_at.ensures.value) (all.valid c.loop-k.k c.loop-k-test.true))),
+        λ all. absurd (c.in_default.ensures.value (subst Valid (sym c.shape_at.ensures.value) (all.valid c.loop-k.k c.loop-k-test.true))),
       );
     }
 

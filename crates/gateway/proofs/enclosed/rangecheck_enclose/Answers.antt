@@ -10,7 +10,7 @@ returns-then-ends-list c =
     record {
       value =
           inr (inr (inr (inl (record {
-            accepted = passed_from tt tt (record_fault bs) (sym c.in-default.ensures.value);
+            accepted = passed_from tt tt (record_fault bs) (sym c.in_default.ensures.value);
             choice = c.in-Some.choice;
             known = sym c.in-Some.ensures.value;
             listed = c.listed.ensures.value.0 c.if-not-listed.false;
@@ -26,7 +26,7 @@ returns c =
       value =
           inr (inr (inr (inr (record {
             mapping = c.read.new.place;
-            held = c.in-default.ensures.after;
+            held = c.in_default.ensures.after;
             choice = c.in-Some.choice;
             known = sym c.in-Some.ensures.value;
             listed = c.listed.ensures.value.0 c.if-not-listed.false;

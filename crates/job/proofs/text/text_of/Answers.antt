@@ -19,7 +19,7 @@ loop-line-preserved c =
     let before = string_bytes c.loop-line.text in
     let line = get_or lines i none in
     let rest = drop (i + 1) lines in
-    let wrote : string_bytes c.writeln.new.self ≡ before ++ (spelled line ++ (10 ∷ [])) = c.in-default.ensures.bytes in
+    let wrote : string_bytes c.writeln.new.self ≡ before ++ (spelled line ++ (10 ∷ [])) = c.in_default.ensures.bytes in
     ap (λ t. t ++ printed rest) wrote
     ∙ line_written before line rest
     ∙ ap (λ ls. before ++ printed ls) {x = line ∷ rest} {y = drop i lines} (sym (drop_more lines i none c.loop-line-test.true))
