@@ -19,8 +19,8 @@ pub returns : goal.returns
 returns g c =
     let self = c.args.self.now in
     let probed =
-    probe_ok self.mapping (view self) c.args.region c.args.corner c.in_ok-row.row c.cell_of-cell.result c.corner_ends.result c.first_witness-self.result
-    c.in_ok-row.ensures.value c.cell_of-cell.ensures.value c.corner_ends.ensures.value c.first_witness-self.ensures.value in
+    probe_ok self.mapping (view self) c.args.region c.args.corner c.in_ok-row.row c.cell_of-cell.result c.corner-ends.result c.first_witness-self.result
+    c.in_ok-row.ensures.value c.cell_of-cell.ensures.value c.corner-ends.ensures.value c.first_witness-self.ensures.value in
     record {
       value = ap (λ r. r.0) probed;
       after = ap (λ r. r.1) probed;
