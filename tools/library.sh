@@ -8,8 +8,8 @@ build_library() {
     kit="$(dirname "$(dirname "$(rt doc)")")"
     archive="${RANGECHECK_LIBRARY:-}"
     if [ -z "$archive" ]; then
-        (cd "$here" && rt staticlib gateway) >&2
-        archive="$here/target/staticlib/libgateway.a"
+        (cd "$here/crates/gateway" && rt lib) >&2
+        archive="$here/crates/gateway/out/libgateway.a"
     fi
     link=("$archive" "$kit/lib/librattle_c.a")
 }

@@ -14,7 +14,7 @@ refused() {
     if cmp -s "$here/crates/stages/src/main.rt" "$copy/crates/stages/src/main.rt"; then
         echo "$1: the comment is not there"
         failed=1
-    elif (cd "$copy" && rt dev stages 2>&1) | grep -q "error\[$4\]"; then
+    elif (cd "$copy/crates/stages" && rt check 2>&1) | grep -q "error\[$4\]"; then
         echo "$1: does not compile ($4)"
     else
         echo "$1: NOT REFUSED"
