@@ -1,7 +1,7 @@
 -- Hulls: what holds of the parts holds of the hull, and what holds of one part and grows holds of it. Assumes nothing.
 use Rattle.std.proofs.Common.{ℕ, zero, suc, ◌<◌, List, [], ◌∷◌, length, get_or, ℤ, ◌+ℤ◌, ◌-ℤ◌, ◌≤ℤ◌, IfSome, Some, None, fold, Option, unwrap_or, ⊎_elim, arith, MatchOption}
 use Rattle.std.specs.Int.{int_max, int_min}
-use Rattle.std.specs.List.{AllByRecursion as All}
+use Rattle.std.specs.List.{AllByRecursion}
 use Rattle.std.proofs.lemmas.Int.{clamps}
 use Rattle.arith.proofs.Ring.{lin}
 use Rattle.arith.proofs.Order.{total}
@@ -29,7 +29,7 @@ module _ (P : Answer → Type 0) where
 
   -- the same along a list of regions
   rows_all : ((x y : Answer) → P x → P y → P (join x y)) → (rows : List Row) (h : Option Answer)
-      → IfSome h P → All (λ r. P (answer_of r)) rows → IfSome (fold (λ h r. join_on h (answer_of r)) h rows) P
+      → IfSome h P → AllByRecursion (λ r. P (answer_of r)) rows → IfSome (fold (λ h r. join_on h (answer_of r)) h rows) P
   rows_all f [] h p q = p
   rows_all f (r ∷ rows) h p q = rows_all f rows (join_on h (answer_of r)) (on_all f h (answer_of r) p q.0) q.1
 
@@ -44,7 +44,7 @@ module _ (P : Answer → Type 0) where
   rows_one f g (r ∷ rows) h zero l p = rows_left f rows (join_on h (answer_of r)) (on_right g h (answer_of r) p)
   rows_one f g (r ∷ rows) h (suc k) l p = rows_one f g rows (join_on h (answer_of r)) k (omega arith) p
 
-  pub hull_all : ((x y : Answer) → P x → P y → P (join x y)) → (s : State) → IfSome s.cleared P → All (λ r. P (answer_of r)) s.rows → IfSome (hull s) P
+  pub hull_all : ((x y : Answer) → P x → P y → P (join x y)) → (s : State) → IfSome s.cleared P → AllByRecursion (λ r. P (answer_of r)) s.rows → IfSome (hull s) P
   unfolding hull
   hull_all f s p q = rows_all f s.rows s.cleared p q
 

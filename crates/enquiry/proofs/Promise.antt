@@ -1,6 +1,6 @@
 -- The promise: every run of every enquiry is honest. Assumes nothing.
 use Rattle.std.proofs.Common.{◌≡◌, List, [], ◌∷◌, ◌++◌, IfSome, Some, None, Ok, Err, Option, Result, sym, refl, subst}
-use Rattle.std.specs.List.{AllByRecursion as All}
+use Rattle.std.specs.List.{AllByRecursion}
 use Rattle.std.proofs.ByRecursion.{All-weaker}
 use Rattle.mapping.specs.declared.cell.Cell.{Cell}
 use Rattle.mapping.specs.declared.mapping.Mapping.{Mapping}
@@ -68,17 +68,17 @@ module _ (ask : Mapping → Cell → Answer) (rules : Rules ask) (m : Mapping) w
   each_call P s (call.Probe i k) cs p q = subst (λ rs. P (rs ++ report m (after ask m (probe m s i k).1 cs) ∷ [])) (sym (not_told ends_told (λ x rs. refl) (probe m s i k).0 _)) p
   each_call P s call.Report cs p q = q p
 
-  all_true : (s : State) (cs : List Call) → Sound m s → All (TrueReport m) (following s cs)
+  all_true : (s : State) (cs : List Call) → Sound m s → AllByRecursion (TrueReport m) (following s cs)
   unfolding replies after
   all_true s [] ok = (report_true m s ok, tt)
   all_true s (c ∷ cs) ok =
-      each_call (All (TrueReport m)) s c cs (all_true (reply ask m s c).1 cs (reply_sound s c ok)) (λ rest. (report_true m s ok, rest))
+      each_call (AllByRecursion (TrueReport m)) s c cs (all_true (reply ask m s c).1 cs (reply_sound s c ok)) (λ rest. (report_true m s ok, rest))
 
-  all_later : (r : Report) → TrueReport m r → (s : State) (cs : List Call) → Sound m s → Since m r s → All (λ l. Inside r l × Settled r l) (following s cs)
+  all_later : (r : Report) → TrueReport m r → (s : State) (cs : List Call) → Sound m s → Since m r s → AllByRecursion (λ l. Inside r l × Settled r l) (following s cs)
   unfolding replies after
   all_later r t s [] ok h = ((later_inside m s ok r t h, later_settled m s ok r t h), tt)
   all_later r t s (c ∷ cs) ok h =
-      each_call (All (λ l. Inside r l × Settled r l)) s c cs
+      each_call (AllByRecursion (λ l. Inside r l × Settled r l)) s c cs
       (all_later r t (reply ask m s c).1 cs (reply_sound s c ok) (reply_since r s c h))
       (λ rest. ((later_inside m s ok r t h, later_settled m s ok r t h), rest))
 
@@ -118,7 +118,7 @@ every_run_honest ask rules m calls =
     every : List Report
     every = report m (opened ask m) ∷ following ask rules m (opened ask m) calls
 
-    all : All (TrueReport m) every
+    all : AllByRecursion (TrueReport m) every
     all = (report_true m (opened ask m) sound, all_true ask rules m (opened ask m) calls sound)
 
     pairs : Pairwise Both every

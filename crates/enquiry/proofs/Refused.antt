@@ -1,6 +1,6 @@
 -- Calls that may be refused: what is known where none of the listed conditions held, and the state after. Assumes nothing.
 use Rattle.std.proofs.Common.{◌≡◌, ℕ, ◌-◌, ◌<◌, ◌≤◌, Bool, true, false, cond, not, ◌||◌, eqb, ltb, List, [], ◌∷◌, length, Some, None, Ok, Err, Option, sym, refl, ap, arith}
-use Rattle.std.specs.List.{AllByRecursion as All}
+use Rattle.std.specs.List.{AllByRecursion}
 use Rattle.std.proofs.lemmas.Bool.Decides.{nat_tests}
 use Rattle.mapping.specs.Cells.{depth}
 use Rattle.mapping.specs.Listed.{first_listed, outcome}
@@ -10,11 +10,11 @@ use Rattle.enquiry.specs.Steps.{settle, shape_of, halve_refusals, clear_refusals
 use Rattle.enquiry.specs.declared.refusal.Refusal.{Refusal}
 
 -- nothing is refused: every condition failed
-pub passed : (cs : List (Bool × Refusal)) → first_listed cs ≡ None → All (λ c. c.0 ≡ false) cs
+pub passed : (cs : List (Bool × Refusal)) → first_listed cs ≡ None → AllByRecursion (λ c. c.0 ≡ false) cs
 passed [] e = tt
 passed (c ∷ cs) e = step c.0 refl e (passed cs)
   where
-    step : (b : Bool) → c.0 ≡ b → cond b (Some c.1) (first_listed cs) ≡ None → (first_listed cs ≡ None → All (λ d. d.0 ≡ false) cs) → (c.0 ≡ false) × All (λ d. d.0 ≡ false) cs
+    step : (b : Bool) → c.0 ≡ b → cond b (Some c.1) (first_listed cs) ≡ None → (first_listed cs ≡ None → AllByRecursion (λ d. d.0 ≡ false) cs) → (c.0 ≡ false) × AllByRecursion (λ d. d.0 ≡ false) cs
     step true h f rest = let z : ◌≡◌ {A = ℕ} 0 1 = cc in absurd (omega arith)
     step false h f rest = (h, rest f)
 

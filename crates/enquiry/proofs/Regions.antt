@@ -1,6 +1,6 @@
 -- The list of open regions under the two changes that calls make: a region becomes two, or leaves. Assumes nothing.
 use Rattle.std.proofs.Common.{◌≡◌, ℕ, ◌+◌, ◌-◌, ◌<◌, ◌⊎◌, List, [], ◌∷◌, ◌++◌, length, get_or, take, set, sym, ap, ◌∙◌, subst, inl, inr, ⊎_elim, arith}
-use Rattle.std.specs.List.{AllByRecursion as All}
+use Rattle.std.specs.List.{AllByRecursion}
 use Rattle.std.proofs.ByRecursion.{All-get_or, All-set, All-push, All-take}
 use Rattle.std.proofs.lemmas.List.{length-set, length-take, length_push, get_or-set_same, get_or-set_other, get_or_append_left, get_or_push, get_or-take}
 use Rattle.std.proofs.lemmas.Bool.{cases_eq}
@@ -14,7 +14,7 @@ SomeRow P rows = (k : ℕ) × (k < length rows) × P (get_or rows k no_row)
 
 module _ (P : Row → Type 0) (rows : List Row) (i : ℕ) (l : i < length rows) where
   -- region i becomes two
-  pub all_halved : (a b : Row) → P a → P b → All P rows → All P (set rows i a ++ b ∷ [])
+  pub all_halved : (a b : Row) → P a → P b → AllByRecursion P rows → AllByRecursion P (set rows i a ++ b ∷ [])
   all_halved a b p q all = All-push P (set rows i a) b (All-set P rows i a p all) q
 
   pub some_halved : (a b : Row) → (P (get_or rows i no_row) → P a ⊎ P b) → SomeRow P rows → SomeRow P (set rows i a ++ b ∷ [])
@@ -41,7 +41,7 @@ module _ (P : Row → Type 0) (rows : List Row) (i : ℕ) (l : i < length rows) 
       elsewhere a b j h ne = get_or_append_left (set rows i a) (b ∷ []) no_row j (omega (arith, length-set rows i a)) ∙ get_or-set_other rows i j a no_row ne
 
   -- region i leaves, and the last one takes its number
-  pub all_without : All P rows → All P (without rows i)
+  pub all_without : AllByRecursion P rows → AllByRecursion P (without rows i)
   all_without all =
       All-take P (length rows - 1) (set rows i (get_or rows (length rows - 1) no_row))
       (All-set P rows i (get_or rows (length rows - 1) no_row) (All-get_or P rows (length rows - 1) no_row (omega arith) all) all)

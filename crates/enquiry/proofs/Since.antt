@@ -6,7 +6,7 @@
 use Rattle.std.proofs.Common.{◌≡◌, ℕ, ◌-◌, ◌<◌, Bool, true, false, cond, length, ℤ, ◌≤ℤ◌, is_some, IfSome, Some, None, Option, unwrap_or, sym, refl, ap, ◌∙◌, subst, ⊎_elim, arith, MatchOption}
 use lib.Signed.{≤ℤ_refl}
 use Rattle.std.specs.Int.{int_max, int_min}
-use Rattle.std.specs.List.{AllByRecursion as All}
+use Rattle.std.specs.List.{AllByRecursion}
 use Rattle.std.proofs.ByRecursion.{All-get_or, All-from_get_or}
 use Rattle.std.proofs.lemmas.Int.{clamps}
 use Rattle.arith.proofs.Ring.{lin}
@@ -42,7 +42,7 @@ abbrev pub range_of : Report → Answer
 range_of r = record { low = r.low; high = r.high; slack = r.slack }
 
 pub record Since (m : Mapping) (r : Report) (s : State) : Type 0 where
-  pub rows_inside : All (λ x. Holds (range_of r) (answer_of x)) s.rows
+  pub rows_inside : AllByRecursion (λ x. Holds (range_of r) (answer_of x)) s.rows
   pub cleared_inside : IfSome s.cleared (Holds (range_of r))
   pub leaves : r.verdict ≡ Leaves → is_some s.witness ≡ true
   pub fits : r.verdict ≡ Fits → wholly_in m r.low r.high ≡ true

@@ -6,7 +6,7 @@
 use Rattle.std.proofs.Common.{◌≡◌, ℕ, ◌-◌, ◌<◌, Bool, true, false, ◌⊎◌, length, ℤ, ◌+ℤ◌, ◌-ℤ◌, ◌≤ℤ◌, IfSome, Some, None, Option, sym, refl, subst, inl, inr, ⊎_elim, arith, MatchOption}
 use lib.Signed.{lt_z}
 use Rattle.std.specs.Int.{int_max, int_min}
-use Rattle.std.specs.List.{AllByRecursion as All}
+use Rattle.std.specs.List.{AllByRecursion}
 use Rattle.std.proofs.ByRecursion.{All-get_or}
 use Rattle.std.proofs.lemmas.Int.{clamps}
 use Rattle.std.proofs.lemmas.Bool.{cond_both}
@@ -48,8 +48,8 @@ Covered m p s = MatchOption s.cleared ⊥ (Between m p) ⊎ SomeRow (Holding m p
 
 pub record Sound (m : Mapping) (s : State) : Type 0 where
   pub covered : (p : Point) → Rational p → Covered m p s
-  pub valid : All (λ r. Valid r.shape) s.rows
-  pub near : All (λ r. Near m (answer_of r)) s.rows
+  pub valid : AllByRecursion (λ r. Valid r.shape) s.rows
+  pub near : AllByRecursion (λ r. Near m (answer_of r)) s.rows
   pub cleared_near : IfSome s.cleared (Near m)
   pub outside : IfSome s.witness (Outside m)
 

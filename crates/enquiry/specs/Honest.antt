@@ -12,7 +12,7 @@
 --     WitnessTrue m c    the witness that a closed enquiry gives, if any, is outside
 -- Assumes nothing.
 use Rattle.std.specs.Prelude.{◌≡◌, List, [], ◌∷◌, ◌+ℤ◌, ◌-ℤ◌, ◌≤ℤ◌, ◌≢◌}
-use Rattle.std.specs.List.{AllByRecursion as All}
+use Rattle.std.specs.List.{AllByRecursion}
 use Rattle.mapping.specs.Points.{Point, Rational}
 use Rattle.mapping.specs.Values.{AtLeast, AtMost}
 use Rattle.mapping.specs.declared.mapping.Mapping.{Mapping}
@@ -26,7 +26,7 @@ use Rattle.enquiry.specs.declared.witness.Witness.{Witness}
 
 abbrev pub Pairwise : {X : Type 0} → (X → X → Type 0) → List X → Type 0
 Pairwise R [] = Unit {0}
-Pairwise R (x ∷ xs) = All (R x) xs × Pairwise R xs
+Pairwise R (x ∷ xs) = AllByRecursion (R x) xs × Pairwise R xs
 
 abbrev pub Encloses : Mapping → Report → Type 0
 Encloses m r = (p : Point) → Rational p → AtLeast m p r.low × AtMost m p r.high
@@ -50,12 +50,12 @@ abbrev pub Settled : Report → Report → Type 0
 Settled earlier later = (earlier.verdict ≢ Open) → later.verdict ≡ earlier.verdict
 
 pub record Honest (m : Mapping) (reports : List Report) : Type 0 where
-  pub encloses : All (Encloses m) reports
+  pub encloses : AllByRecursion (Encloses m) reports
   pub nested : Pairwise Inside reports
-  pub low_near : All (LowNear m) reports
-  pub high_near : All (HighNear m) reports
-  pub fits_true : All (FitsTrue m) reports
-  pub leaves_true : All (LeavesTrue m) reports
+  pub low_near : AllByRecursion (LowNear m) reports
+  pub high_near : AllByRecursion (HighNear m) reports
+  pub fits_true : AllByRecursion (FitsTrue m) reports
+  pub leaves_true : AllByRecursion (LeavesTrue m) reports
   pub settled : Pairwise Settled reports
 
 abbrev pub Outside : Mapping → Witness → Type 0

@@ -8,10 +8,10 @@ use Rattle.arith.specs.Rounding.{quot_down, quot_up}
 use Rattle.arith.proofs.Ring.{lin}
 use Rattle.forms.specs.Arrays.{numbers}
 use Rattle.forms.specs.Worked.{Within}
-use Rattle.forms.specs.Works.{summable, All}
+use Rattle.forms.specs.Works.{summable, EachWithin}
 
 -- a new number at one place
-pub all_set : (b : ℕ) (xs : List ℤ) (k : ℕ) (z : ℤ) → k < length xs → All b xs → Within b z → All b (set xs k z)
+pub all_set : (b : ℕ) (xs : List ℤ) (k : ℕ) (z : ℤ) → k < length xs → EachWithin b xs → Within b z → EachWithin b (set xs k z)
 all_set b xs k z len all new j =
     ⊎_elim
     (λ (e : j ≡ k). subst (λ i. Within b (numbers (set xs k z) i)) (sym e) (subst (Within b) (sym (get_or-set_same xs k z (pos 0) len)) new))

@@ -7,7 +7,7 @@ use Rattle.forms.specs.Arrays.{numbers, Turned}
 use Rattle.forms.specs.Choose.{factorial, choose, weight}
 use Rattle.forms.specs.Halving.{Row, mean_down, rounds, kept, deep}
 use Rattle.forms.specs.Worked.{Within}
-use Rattle.forms.specs.Works.{weighed_row, done, summable, All, grown, Fit, Grown}
+use Rattle.forms.specs.Works.{weighed_row, done, summable, EachWithin, grown, Fit, Grown}
 use Rattle.forms.specs.declared.work.Work.{Work}
 use Rattle.forms.specs.declared.work.Work.TheVariants.{Weigh, Halve}
 use Rattle.forms.proofs.Alike.{deep_reads}
@@ -22,7 +22,7 @@ done_reads Weigh n = weighed_reads n
 done_reads (Halve d p) n = deep_reads mean_down n d p
 
 -- an array of zeros
-pub all_zeros : (b : ℕ) (ys : List ℤ) → ((k : ℕ) → numbers ys k ≡ pos 0) → All b ys
+pub all_zeros : (b : ℕ) (ys : List ℤ) → ((k : ℕ) → numbers ys k ≡ pos 0) → EachWithin b ys
 all_zeros b ys z k = subst (Within b) (sym (z k)) (omega (arith, lin), omega (arith, lin))
 
 -- a table that no work was done on yet
@@ -31,13 +31,13 @@ grown_not_yet Weigh n xs f = λ b all k. within_more b (grown n b) (numbers xs k
 grown_not_yet (Halve d p) n xs f = f.1
 
 -- a row of a table is as fit as the table
-pub fit_row : (w : Work) (n : ℕ) (xs ys : List ℤ) → ((b : ℕ) → All b xs → All b ys) → Fit w n xs → Fit w n ys
+pub fit_row : (w : Work) (n : ℕ) (xs ys : List ℤ) → ((b : ℕ) → EachWithin b xs → EachWithin b ys) → Fit w n xs → Fit w n ys
 fit_row Weigh n xs ys h f = record { bound = f.bound; each = h f.bound f.each; room = f.room }
 fit_row (Halve d p) n xs ys h f = (f.0, h summable f.1)
 
 -- one more row: old is read from the table xs, new is made of it and put into ys, which gives zs
-pub grown_more : (w : Work) (n : ℕ) (xs old new ys zs : List ℤ) → ((b : ℕ) → All b xs → All b old) → Grown w n old new → Grown w n xs ys
-    → ((b : ℕ) → All b ys → All b new → All b zs) → Grown w n xs zs
+pub grown_more : (w : Work) (n : ℕ) (xs old new ys zs : List ℤ) → ((b : ℕ) → EachWithin b xs → EachWithin b old) → Grown w n old new → Grown w n xs ys
+    → ((b : ℕ) → EachWithin b ys → EachWithin b new → EachWithin b zs) → Grown w n xs zs
 grown_more Weigh n xs old new ys zs read made so_far put = λ b all. put (grown n b) (so_far b all) (made b (read b all))
 grown_more (Halve d p) n xs old new ys zs read made so_far put = put summable so_far made
 

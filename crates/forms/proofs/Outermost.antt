@@ -16,7 +16,7 @@ use Rattle.forms.specs.Polynomial.{Table}
 use Rattle.forms.specs.Stages.{minus, on_box, on_cell}
 use Rattle.forms.specs.Tables.{least, least_of, low, low_table}
 use Rattle.forms.specs.Worked.{Within}
-use Rattle.forms.specs.Works.{All}
+use Rattle.forms.specs.Works.{EachWithin}
 use Rattle.forms.proofs.Alike.{halved_reads, least_reads, least_of_reads}
 use Rattle.forms.specs.Extremes.{least_le, least_at, Reached, least_of_only}
 use Rattle.forms.specs.Mirror.{high_mirror}
@@ -50,7 +50,7 @@ items_all n k x xs some fit e end =
     at (suc i) l = get_or-take (n - 1) (drop 1 xs) i (pos 0) l ∙ get_or-drop 1 xs i (pos 0) ∙ ap (numbers xs) (one-add i)
 
 -- the least number keeps the bound of all
-pub least_within : (b n : ℕ) (xs : List ℤ) → All b xs → Within b (least n (numbers xs))
+pub least_within : (b n : ℕ) (xs : List ℤ) → EachWithin b xs → Within b (least n (numbers xs))
 least_within b n xs all = let s = least_at n (numbers xs) in subst (Within b) (sym s.2) (all s.0)
 
 -- ---- an array and a table

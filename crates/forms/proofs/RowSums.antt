@@ -9,7 +9,7 @@ use Rattle.forms.specs.Arrays.{numbers}
 use Rattle.forms.specs.Choose.{factorial, weight}
 use Rattle.forms.specs.Halving.{Row}
 use Rattle.forms.specs.Worked.{Within}
-use Rattle.forms.specs.Works.{weighed_row, summable, All, grown, Weighable}
+use Rattle.forms.specs.Works.{weighed_row, summable, EachWithin, grown, Weighable}
 use Rattle.forms.proofs.Between.{Between, term_between, sum_between}
 use Rattle.forms.specs.ChooseLemmas.{weight_le}
 
@@ -20,11 +20,11 @@ module _ (n j : ℕ) (xs : List ℤ) (place : j ≤ n) where
   abbrev pub weigh_term : ℕ → ℤ
   weigh_term i = numbers xs i *ℤ pos (weight n j i)
 
-  each : (b : ℕ) → All b xs → (i : ℕ) → i < suc n → Between (neg_ℤ (pos (b * factorial n))) (pos (b * factorial n)) (weigh_term i)
+  each : (b : ℕ) → EachWithin b xs → (i : ℕ) → i < suc n → Between (neg_ℤ (pos (b * factorial n))) (pos (b * factorial n)) (weigh_term i)
   each b all i l = term_between b (factorial n) (weight n j i) (numbers xs i) (size_of b (numbers xs i) (all i)) (weight_le n j i place (omega arith))
 
   -- the first t terms
-  part : (b : ℕ) → All b xs → (t : ℕ) → t ≤ suc n → Within (grown n b) (sum t weigh_term)
+  part : (b : ℕ) → EachWithin b xs → (t : ℕ) → t ≤ suc n → Within (grown n b) (sum t weigh_term)
   part b all t l =
       let s = sum_between t weigh_term (b * factorial n) (λ i k. each b all i (omega arith)) in
       let m : t * (b * factorial n) ≤ grown n b = mul-le-mul_right (b * factorial n) l in
@@ -48,7 +48,7 @@ module _ (n j : ℕ) (xs : List ℤ) (place : j ≤ n) where
   unfolding weighed_row
   all_terms = refl
 
-  pub numerator_size : (b : ℕ) → All b xs → Within (grown n b) (sum (suc n) weigh_term)
+  pub numerator_size : (b : ℕ) → EachWithin b xs → Within (grown n b) (sum (suc n) weigh_term)
   numerator_size b all = part b all (suc n) (omega arith)
 
 -- weighing reads only the numbers up to n
@@ -58,7 +58,7 @@ weighed_reads n r s h k l =
     sum_ext (suc n) (λ i. r i *ℤ pos (weight n k i)) (λ i. s i *ℤ pos (weight n k i)) (λ i b. λ t. h i (omega arith) t *ℤ pos (weight n k i))
 
 -- the coefficients of a mapping, in an array
-pub coefficients_within : (m : Mapping) (xs : List ℤ) → ((k : ℕ) → numbers xs k ≡ numbers m.coefficients k) → All (2 ^ 31) xs
+pub coefficients_within : (m : Mapping) (xs : List ℤ) → ((k : ℕ) → numbers xs k ≡ numbers m.coefficients k) → EachWithin (2 ^ 31) xs
 coefficients_within m xs same k =
     let z = numbers m.coefficients k in
     subst (Within (2 ^ 31)) (sym (same k)) (omega (arith, lin, m.narrow k, mag_is z), omega (arith, lin, m.narrow k, mag_is z))

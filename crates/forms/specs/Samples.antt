@@ -9,7 +9,7 @@
 use Rattle.std.specs.Prelude.{◌≡◌, ℕ, zero, suc, ◌^◌, ◌<◌, ◌≤◌, List, [], ◌∷◌, ◌++◌, length, replicate, ℤ, pos, negsuc, slice_index, slice_index_or, refl}
 use Rattle.std.proofs.Common.{le_trans, arith, sym, subst, lit<, lit≤}
 use Rattle.std.specs.Int.Signed.{mag}
-use Rattle.std.specs.List.{AllByRecursion as All}
+use Rattle.std.specs.List.{AllByRecursion}
 use Rattle.mapping.specs.Terms.{terms}
 use Rattle.mapping.specs.declared.cell.Cell.{Cell}
 use Rattle.mapping.specs.declared.kind.Kind.TheVariants.{Unsigned8}
@@ -41,7 +41,7 @@ padded_zero [] n k h = zeros n k
 padded_zero (c ∷ cs) n zero h = absurd (omega arith)
 padded_zero (c ∷ cs) n (suc k) h = padded_zero cs n k (omega arith)
 
-pub padded_narrow : (cs : List ℤ) (n k : ℕ) → All (λ c. mag c < 2 ^ 31) cs → mag (slice_index_or (padded cs n) k (pos 0)) < 2 ^ 31
+pub padded_narrow : (cs : List ℤ) (n k : ℕ) → AllByRecursion (λ c. mag c < 2 ^ 31) cs → mag (slice_index_or (padded cs n) k (pos 0)) < 2 ^ 31
 padded_narrow [] n k h = subst (λ (z : ℤ). mag z < 2 ^ 31) (sym (zeros n k)) (lit< tt)
 padded_narrow (c ∷ cs) n zero h = h.0
 padded_narrow (c ∷ cs) n (suc k) h = padded_narrow cs n k h.1
@@ -49,7 +49,7 @@ padded_narrow (c ∷ cs) n (suc k) h = padded_narrow cs n k h.1
 -- a mapping of kind 0 and shift 0
 abbrev pub sample : (s n₁ n₂ n₃ : ℕ) (cs : List ℤ) (rest : ℕ) → 1 ≤ s → s ≤ 3 → n₁ ≤ 7 → n₂ ≤ 7 → n₃ ≤ 7
     → (s ≤ 1 → n₂ ≡ 0) → (s ≤ 2 → n₃ ≡ 0) → terms (n₁ ∷ (n₂ ∷ (n₃ ∷ []))) ≤ 64 → length cs ≤ terms (n₁ ∷ (n₂ ∷ (n₃ ∷ [])))
-    → length (padded cs rest) ≡ 64 → All (λ c. mag c < 2 ^ 31) cs → Mapping
+    → length (padded cs rest) ≡ 64 → AllByRecursion (λ c. mag c < 2 ^ 31) cs → Mapping
 sample s n₁ n₂ n₃ cs rest some few l₁ l₂ l₃ a₂ a₃ small count long slim = record {
   inputs = s;
   degrees = n₁ ∷ (n₂ ∷ (n₃ ∷ []));
@@ -136,4 +136,4 @@ figures =
 
 -- each definition gives its numbers
 abbrev pub Stand : Type 0
-Stand = All (λ f. f.0 ≡ f.1) figures
+Stand = AllByRecursion (λ f. f.0 ≡ f.1) figures

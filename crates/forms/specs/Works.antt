@@ -2,7 +2,7 @@
 --     weighed_row n r    the numerators of the Bernstein coefficients of the row r of degree n: the sum of r i times the weight of i
 --     done w n           what the work w makes of a row of degree n
 --     summable           the largest size of two numbers that can be added up in 64 bits, whatever their signs
---     All b xs           each number of the array is at most b in size
+--     EachWithin b xs    each number of the array is at most b in size
 --     Zeros xs           each number of the array is 0
 --     grown n b          what weighing along an input of degree n makes of the bound b
 --     Weighable n xs     there is a bound on the numbers with which sums of weighed numbers stay summable
@@ -28,8 +28,8 @@ done (Halve d p) n = deep (kept mean_down n) d p
 abbrev pub summable : ℕ
 summable = 2 ^ 62 - 1
 
-abbrev pub All : ℕ → List ℤ → Type 0
-All b xs = (k : ℕ) → Within b (numbers xs k)
+abbrev pub EachWithin : ℕ → List ℤ → Type 0
+EachWithin b xs = (k : ℕ) → Within b (numbers xs k)
 
 abbrev pub Zeros : List ℤ → Type 0
 Zeros xs = (k : ℕ) → numbers xs k ≡ pos 0
@@ -39,13 +39,13 @@ grown n b = suc n * (b * factorial n)
 
 pub record Weighable (n : ℕ) (xs : List ℤ) : Type 0 where
   pub bound : ℕ
-  pub each : All bound xs
+  pub each : EachWithin bound xs
   pub room : grown n bound ≤ summable
 
 abbrev pub Fit : Work → ℕ → List ℤ → Type 0
 Fit Weigh n xs = Weighable n xs
-Fit (Halve d p) n xs = (d ≤ 10) × All summable xs
+Fit (Halve d p) n xs = (d ≤ 10) × EachWithin summable xs
 
 abbrev pub Grown : Work → ℕ → List ℤ → List ℤ → Type 0
-Grown Weigh n xs ys = (b : ℕ) → All b xs → All (grown n b) ys
-Grown (Halve d p) n xs ys = All summable ys
+Grown Weigh n xs ys = (b : ℕ) → EachWithin b xs → EachWithin (grown n b) ys
+Grown (Halve d p) n xs ys = EachWithin summable ys

@@ -7,7 +7,7 @@ ghost use Rattle.forms.specs.Bernstein.{bernstein};
 ghost use Rattle.forms.specs.Stages.{on_cell};
 ghost use Rattle.forms.specs.Tables.{least, least_of};
 ghost use Rattle.forms.specs.Worked.{Within};
-ghost use Rattle.forms.specs.Works.{summable, All};
+ghost use Rattle.forms.specs.Works.{summable, EachWithin};
 ghost use Rattle.forms.specs.BernsteinSound.{bernstein_rules};
 
 use crate::answer::Answer;
@@ -25,9 +25,9 @@ pub struct Bernstein;
 
 /// Halves a table on the box down to the cell: by all digits of the place of input 1, then of input 2, then of input 3.
 fn halve_table(table: &mut [i64; 64], m: &Mapping, c: &Cell)
-    requires { All summable table.old }
+    requires { EachWithin summable table.old }
     ensures value { Fills m.now.degrees table.new (on_cell m.now c.now (grid m.now.degrees table.old)) }
-    ensures size { All summable table.new }
+    ensures size { EachWithin summable table.new }
 {
     let [first, second, third] = m.degrees;
     let (n1, n2, n3) = (first as usize, second as usize, third as usize);
@@ -60,7 +60,7 @@ fn least(table: &[i64; 64], count: usize) -> i64
 
 /// The least number on the cell of a table on the box, which is used up.
 fn least_on(table: &mut [i64; 64], m: &Mapping, c: &Cell) -> i64
-    requires { All summable table.old }
+    requires { EachWithin summable table.old }
     ensures value { result ≡ least_of (degree m.now 0) (degree m.now 1) (degree m.now 2) (on_cell m.now c.now (grid m.now.degrees table.old)) }
     ensures size { Within summable result }
 {

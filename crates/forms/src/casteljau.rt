@@ -4,7 +4,7 @@ ghost use Rattle.std.specs.Prelude.{◌≡◌, ℕ, ◌+◌, ◌<◌, ◌≤◌}
 ghost use Rattle.forms.specs.Arrays.{numbers, Holds};
 ghost use Rattle.forms.specs.Halving.{mean_down, kept, deep};
 ghost use Rattle.forms.specs.Worked.{Within};
-ghost use Rattle.forms.specs.Works.{summable, All};
+ghost use Rattle.forms.specs.Works.{summable, EachWithin};
 
 /// Half the sum of `x` and `y`, rounded down.
 fn mean(x: i64, y: i64) -> i64
@@ -19,10 +19,10 @@ fn mean(x: i64, y: i64) -> i64
 /// One round: each of the first `count` numbers becomes the mean of itself and its right neighbour.
 fn round(mut row: [i64; 8], count: usize) -> [i64; 8]
     requires count { count < 8 }
-    requires size { All summable row }
+    requires size { EachWithin summable row }
     ensures new { (k : ℕ) → k < count → numbers result k ≡ mean_down (numbers row k) (numbers row (k + 1)) }
     ensures rest { (k : ℕ) → count ≤ k → numbers result k ≡ numbers row k }
-    ensures size { All summable result }
+    ensures size { EachWithin summable result }
 {
     for k in 0..count {
         row[k] = mean(row[k], row[k + 1]);
@@ -34,9 +34,9 @@ fn round(mut row: [i64; 8], count: usize) -> [i64; 8]
 /// stands first, and what N rounds leave in place is the upper half.
 fn halve<const N: usize>(row: [i64; 8], digit: u16) -> [i64; 8]
     requires degree { N < 8 }
-    requires size { All summable row }
+    requires size { EachWithin summable row }
     ensures value { Holds N result (kept mean_down N digit (numbers row)) }
-    ensures size { All summable result }
+    ensures size { EachWithin summable result }
 {
     let mut lower = row;
     let mut upper = row;
@@ -52,9 +52,9 @@ fn halve<const N: usize>(row: [i64; 8], digit: u16) -> [i64; 8]
 pub(crate) fn halve_to<const N: usize>(mut row: [i64; 8], depth: u8, place: u16) -> [i64; 8]
     requires degree { N < 8 }
     requires shallow { depth ≤ 10 }
-    requires size { All summable row }
+    requires size { EachWithin summable row }
     ensures value { Holds N result (deep (kept mean_down N) depth place (numbers row)) }
-    ensures size { All summable result }
+    ensures size { EachWithin summable result }
 {
     for t in 0..depth {
         let digit = (place >> (depth - 1 - t)) % 2;

@@ -1,7 +1,7 @@
 // Tables over three inputs, as arrays in row-major order, and work along one input after the other.
 ghost use Rattle.std.specs.Prelude.{◌≡◌, ℕ, ◌+◌, ◌*◌, ◌<◌, ◌≤◌};
 ghost use Rattle.forms.specs.Arrays.{numbers, Holds, Turned};
-ghost use Rattle.forms.specs.Works.{done, All, Fit, Grown};
+ghost use Rattle.forms.specs.Works.{done, EachWithin, Fit, Grown};
 
 use crate::casteljau::halve_to;
 use crate::weighing::weigh;
@@ -12,7 +12,7 @@ fn read_row<const N: usize>(table: &[i64; 64], start: usize, stride: usize) -> [
     requires degree { N < 8 }
     requires within { N * stride + start < 64 }
     ensures value { (k : ℕ) → k < N + 1 → numbers result k ≡ numbers table.now (k * stride + start) }
-    ensures size { (b : ℕ) → All b table.now → All b result }
+    ensures size { (b : ℕ) → EachWithin b table.now → EachWithin b result }
 {
     let mut row = [0; 8];
     for k in 0..N + 1 {
@@ -27,7 +27,7 @@ fn put_row<const N: usize>(table: &mut [i64; 64], start: usize, row: &[i64; 8])
     requires within { start + N < 64 }
     ensures new { (k : ℕ) → k < N + 1 → numbers table.new (start + k) ≡ numbers row.now k }
     ensures before { (j : ℕ) → j < start → numbers table.new j ≡ numbers table.old j }
-    ensures size { (b : ℕ) → All b table.old → All b row.now → All b table.new }
+    ensures size { (b : ℕ) → EachWithin b table.old → EachWithin b row.now → EachWithin b table.new }
 {
     for k in 0..N + 1 {
         table[start + k] = row[k];

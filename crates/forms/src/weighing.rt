@@ -3,7 +3,7 @@
 ghost use Rattle.std.specs.Prelude.{◌≡◌, ℕ, ◌<◌, ◌≤◌};
 ghost use Rattle.forms.specs.Arrays.{numbers, Holds};
 ghost use Rattle.forms.specs.Worked.{Within};
-ghost use Rattle.forms.specs.Works.{weighed_row, All, grown, Weighable};
+ghost use Rattle.forms.specs.Works.{weighed_row, EachWithin, grown, Weighable};
 
 use crate::binomials::weight;
 
@@ -13,7 +13,7 @@ fn numerator<const N: usize>(row: &[i64; 8], j: usize) -> i64
     requires place { j ≤ N }
     requires size { Weighable N row.now }
     ensures value { result ≡ weighed_row N (numbers row.now) j }
-    ensures size { (b : ℕ) → All b row.now → Within (grown N b) result }
+    ensures size { (b : ℕ) → EachWithin b row.now → Within (grown N b) result }
 {
     let mut sum = 0;
     for i in 0..N + 1 {
@@ -27,7 +27,7 @@ pub(crate) fn weigh<const N: usize>(row: [i64; 8]) -> [i64; 8]
     requires degree { N < 8 }
     requires size { Weighable N row }
     ensures value { Holds N result (weighed_row N (numbers row)) }
-    ensures size { (b : ℕ) → All b row → All (grown N b) result }
+    ensures size { (b : ℕ) → EachWithin b row → EachWithin (grown N b) result }
 {
     let mut sums = [0; 8];
     for j in 0..N + 1 {

@@ -6,7 +6,7 @@ ghost use Rattle.forms.specs.Arrays.{numbers, Fills};
 ghost use Rattle.forms.specs.Choose.{factorial};
 ghost use Rattle.forms.specs.Stages.{minus, on_box};
 ghost use Rattle.forms.specs.Tables.{numerator};
-ghost use Rattle.forms.specs.Works.{summable, All, Zeros};
+ghost use Rattle.forms.specs.Works.{summable, EachWithin, Zeros};
 
 use crate::binomials::factorial;
 use crate::grid::along;
@@ -41,7 +41,7 @@ fn widen(m: &Mapping, table: &mut [i64; 64])
 fn numerators(m: &Mapping, table: &mut [i64; 64])
     requires { Zeros table.old }
     ensures value { Fills m.now.degrees table.new (numerator (degree m.now 0) (degree m.now 1) (degree m.now 2) (coefficient m.now)) }
-    ensures size { All summable table.new }
+    ensures size { EachWithin summable table.new }
 {
     let [first, second, third] = m.degrees;
     let (n1, n2, n3) = (first as usize, second as usize, third as usize);
@@ -58,7 +58,7 @@ pub(crate) fn first_tables(m: &Mapping, low: &mut [i64; 64], mirrored: &mut [i64
     requires high { Zeros mirrored.old }
     ensures low { Fills m.now.degrees low.new (on_box m.now (coefficient m.now)) }
     ensures high { Fills m.now.degrees mirrored.new (on_box m.now (minus (coefficient m.now))) }
-    ensures sizes { All summable low.new × All summable mirrored.new }
+    ensures sizes { EachWithin summable low.new × EachWithin summable mirrored.new }
 {
     let denominator = denominator(m);
     numerators(m, low);

@@ -6,7 +6,7 @@
 --     Bytes bs           each number is a byte
 -- Assumes nothing.
 use Rattle.std.specs.Prelude.{ℕ, zero, suc, ◌+◌, ◌*◌, ◌/◌, ◌%◌, ◌^◌, ◌<◌, List, [], ◌∷◌, length, take, drop}
-use Rattle.std.specs.List.{flat_map, AllByRecursion as All}
+use Rattle.std.specs.List.{flat_map, AllByRecursion}
 
 unfoldable pub spell : ℕ → ℕ → List ℕ
 spell zero v = []
@@ -23,4 +23,4 @@ unfoldable pub field : List ℕ → ℕ → ℕ → ℕ
 field bytes p k = number (take k (drop p (bits_of bytes)))
 
 abbrev pub Bytes : List ℕ → Type 0
-Bytes bs = All (λ b. b < 256) bs
+Bytes bs = AllByRecursion (λ b. b < 256) bs

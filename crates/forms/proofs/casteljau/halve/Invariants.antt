@@ -2,7 +2,7 @@
 use Rattle.std.proofs.Common.{◌≡◌, length}
 use Rattle.forms.specs.Arrays.{numbers, Holds}
 use Rattle.forms.specs.Halving.{mean_down, kept}
-use Rattle.forms.specs.Works.{summable, All}
+use Rattle.forms.specs.Works.{summable, EachWithin}
 use Rattle.forms.proofs.Loops.{partly}
 use Rattle.forms.proofs.casteljau.halve.Given as goal
 
@@ -12,5 +12,5 @@ invariant-loop-t g l =
     × (length l.upper ≡ 8)
     × Holds l.t l.lower (kept mean_down g.row.N 0 (numbers l.initial.lower))
     × Holds g.row.N l.upper (partly mean_down g.row.N l.t (numbers l.initial.lower))
-    × All summable l.lower
-    × All summable l.upper
+    × EachWithin summable l.lower
+    × EachWithin summable l.upper

@@ -3,7 +3,7 @@ use Rattle.std.proofs.Common.{◌≡◌, ℕ, ◌<◌, ◌≤◌, length, neg_�
 use Rattle.std.specs.NonZero.{non_zero_u64_get}
 use Rattle.arith.specs.Rounding.{quot_down, quot_up}
 use Rattle.forms.specs.Arrays.{numbers}
-use Rattle.forms.specs.Works.{summable, All}
+use Rattle.forms.specs.Works.{summable, EachWithin}
 use Rattle.forms.proofs.whole.first_tables.Given as goal
 
 abbrev pub invariant-loop-index : goal.invariant-loop-index
@@ -13,5 +13,5 @@ invariant-loop-index l =
     × ((t : ℕ) → t < l.index → numbers l.low t ≡ quot_down (numbers l.initial.low t) (non_zero_u64_get l.denominator))
     × ((t : ℕ) → t < l.index → numbers l.mirrored t ≡ neg_ℤ (quot_up (numbers l.initial.low t) (non_zero_u64_get l.denominator)))
     × ((t : ℕ) → l.index ≤ t → numbers l.low t ≡ numbers l.initial.low t)
-    × All summable l.low
-    × All summable l.mirrored
+    × EachWithin summable l.low
+    × EachWithin summable l.mirrored

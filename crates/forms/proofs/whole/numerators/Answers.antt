@@ -6,7 +6,7 @@ use Rattle.mapping.specs.Values.{degree}
 use Rattle.mapping.specs.declared.mapping.Mapping.{Mapping}
 use Rattle.forms.specs.Arrays.{numbers}
 use Rattle.forms.specs.Tables.{along1, along2, along3}
-use Rattle.forms.specs.Works.{weighed_row, summable, All, grown}
+use Rattle.forms.specs.Works.{weighed_row, summable, EachWithin, grown}
 use Rattle.forms.proofs.Filling.{rolled, turned_back}
 use Rattle.forms.proofs.Growth.{grows, three_grown}
 use Rattle.forms.proofs.Numbers.{weighed_along}
