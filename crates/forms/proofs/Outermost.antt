@@ -2,6 +2,7 @@
 use Rattle.std.proofs.Common.{◌≡◌, ℕ, zero, suc, ◌+◌, ◌-◌, ◌<◌, ◌≤◌, List, ◌∷◌, length, get_or, take, drop, ℤ, pos, neg_ℤ, sym, refl, ap, ◌∙◌, subst, ap₂, add-one, one-add, arith, length-drop, length-take, get_or-drop, get_or-take, w64, SFits, to_z, of_z}
 use Rattle.std.specs.Int.{int_min}
 use Rattle.std.proofs.lemmas.Int.{to_z-of_z}
+use Rattle.arith.specs.Rounding.{quot_down}
 use Rattle.arith.proofs.Order.{le_trans, le_eq}
 use Rattle.mapping.specs.Cells.{depth, place}
 use Rattle.mapping.specs.Terms.{terms, flat}
@@ -11,15 +12,16 @@ use Rattle.mapping.specs.declared.cell.Cell.{Cell}
 use Rattle.mapping.proofs.Exponents.{flat_exponents}
 use Rattle.forms.specs.Arrays.{numbers, grid, Fills}
 use Rattle.forms.specs.Bernstein.{bernstein}
+use Rattle.forms.specs.declared.side.Side.TheVariants.{Low, High}
 use Rattle.forms.specs.Halving.{Row, mean_down}
 use Rattle.forms.specs.Polynomial.{Table}
-use Rattle.forms.specs.Stages.{minus, on_box, on_cell}
-use Rattle.forms.specs.Tables.{least, least_of, low, low_table}
+use Rattle.forms.specs.Stages.{end, minus, held, on_box, on_cell}
+use Rattle.forms.specs.Tables.{first, least, least_of, low, low_table}
 use Rattle.forms.specs.Worked.{Within}
 use Rattle.forms.specs.Works.{EachWithin}
 use Rattle.forms.proofs.Alike.{halved_reads, least_reads, least_of_reads}
 use Rattle.forms.specs.Extremes.{least_le, least_at, Reached, least_of_only}
-use Rattle.forms.specs.Mirror.{high_mirror}
+use Rattle.forms.specs.Mirror.{first_neg, high_mirror}
 use Rattle.forms.proofs.Places.{exponent, exponent_first, exponent_second, exponent_third, flat_below}
 
 pub least_one : (r : Row) → r 0 ≡ least 0 r
@@ -83,31 +85,32 @@ module _ (ns : List ℕ) where
 
 -- ---- the ends of the enclosure
 
-low_text : (m : Mapping) (c : Cell) (a : Table) → least_of (degree m 0) (degree m 1) (degree m 2) (on_cell m c (on_box m a))
+low_text : (m : Mapping) (c : Cell) (a : Table) → least_of (degree m 0) (degree m 1) (degree m 2) (on_cell Low m c (first quot_down (degree m 0) (degree m 1) (degree m 2) a))
     ≡ low (degree m 0) (degree m 1) (degree m 2) a (depth c.shape 0) (place c.shape 0) (depth c.shape 1) (place c.shape 1) (depth c.shape 2) (place c.shape 2)
 unfolding low low_table
 low_text m c a = refl
 
--- from an array that holds the table on the box
-from_box : (m : Mapping) (c : Cell) (a : Table) (xs : List ℤ) → Fills m.degrees xs (on_box m a)
-    → least_of (degree m 0) (degree m 1) (degree m 2) (on_cell m c (grid m.degrees xs))
+-- from an array that holds the coefficients on the box of some polynomial of the mapping's degrees, rounded down
+from_box : (m : Mapping) (c : Cell) (a : Table) (xs : List ℤ) → Fills m.degrees xs (first quot_down (degree m 0) (degree m 1) (degree m 2) a)
+    → least_of (degree m 0) (degree m 1) (degree m 2) (on_cell Low m c (grid m.degrees xs))
     ≡ low (degree m 0) (degree m 1) (degree m 2) a (depth c.shape 0) (place c.shape 0) (depth c.shape 1) (place c.shape 1) (depth c.shape 2) (place c.shape 2)
-from_box m c a xs first =
-    least_of_reads (degree m 0) (degree m 1) (degree m 2) (on_cell m c (grid m.degrees xs)) (on_cell m c (on_box m a))
+from_box m c a xs held =
+    least_of_reads (degree m 0) (degree m 1) (degree m 2) (on_cell Low m c (grid m.degrees xs)) (on_cell Low m c (first quot_down (degree m 0) (degree m 1) (degree m 2) a))
     (halved_reads mean_down (degree m 0) (degree m 1) (degree m 2) (depth c.shape 0) (place c.shape 0) (depth c.shape 1) (place c.shape 1)
-    (depth c.shape 2) (place c.shape 2) (grid m.degrees xs) (on_box m a) first)
+    (depth c.shape 2) (place c.shape 2) (grid m.degrees xs) (first quot_down (degree m 0) (degree m 1) (degree m 2) a) held)
     ∙ low_text m c a
 
-pub low_end : (m : Mapping) (c : Cell) (xs : List ℤ) → Fills m.degrees xs (on_box m (coefficient m))
-    → least_of (degree m 0) (degree m 1) (degree m 2) (on_cell m c (grid m.degrees xs)) ≡ (bernstein m c).low
+pub low_end : (m : Mapping) (c : Cell) (xs : List ℤ) → Fills m.degrees xs (held Low (on_box Low m))
+    → least_of (degree m 0) (degree m 1) (degree m 2) (on_cell Low m c (grid m.degrees xs)) ≡ end Low (bernstein m c)
 unfolding bernstein
-low_end m c xs first = from_box m c (coefficient m) xs first
+low_end m c xs low = from_box m c (coefficient m) xs low
 
 -- the high end is minus the low end of minus the mapping
-pub high_end : (m : Mapping) (c : Cell) (xs : List ℤ) → Fills m.degrees xs (on_box m (minus (coefficient m)))
-    → neg_ℤ (least_of (degree m 0) (degree m 1) (degree m 2) (on_cell m c (grid m.degrees xs))) ≡ (bernstein m c).high
+pub high_end : (m : Mapping) (c : Cell) (xs : List ℤ) → Fills m.degrees xs (held High (on_box High m))
+    → neg_ℤ (least_of (degree m 0) (degree m 1) (degree m 2) (on_cell Low m c (grid m.degrees xs))) ≡ end High (bernstein m c)
 unfolding bernstein
-high_end m c xs first =
-    ap neg_ℤ (from_box m c (minus (coefficient m)) xs first)
+high_end m c xs high =
+    ap neg_ℤ (from_box m c (minus (coefficient m)) xs (λ i j k il jl kl.
+    high i j k il jl kl ∙ first_neg (degree m 0) (degree m 1) (degree m 2) (coefficient m) i j k))
     ∙ sym (high_mirror (degree m 0) (degree m 1) (degree m 2) (coefficient m) (depth c.shape 0) (place c.shape 0) (depth c.shape 1) (place c.shape 1)
     (depth c.shape 2) (place c.shape 2))

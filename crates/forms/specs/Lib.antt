@@ -5,6 +5,7 @@ pub mod Halving
 pub mod Polynomial
 pub mod Tables
 pub mod Bernstein
+pub mod Sides
 pub mod Arrays
 pub mod Stages
 pub mod Nested

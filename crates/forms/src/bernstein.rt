@@ -1,11 +1,12 @@
 // The Bernstein form: Bernstein coefficients on the whole box, halved down to the cell, with every rounding outward.
 ghost use Rattle.std.specs.Prelude.{◌≡◌, ℕ, ◌-◌, ◌<◌, ◌≤◌};
-ghost use Rattle.std.specs.Int.{int_min};
 ghost use Rattle.mapping.specs.Values.{degree};
 ghost use Rattle.forms.specs.Arrays.{numbers, grid, Fills};
 ghost use Rattle.forms.specs.Bernstein.{bernstein};
-ghost use Rattle.forms.specs.Stages.{on_cell};
-ghost use Rattle.forms.specs.Tables.{least, least_of};
+ghost use Rattle.forms.specs.Sides.{outer, extreme};
+ghost use Rattle.forms.specs.Stages.{end, held, on_box, on_cell};
+ghost use Rattle.forms.specs.declared.side.Side.TheVariants.{Low};
+ghost use Rattle.forms.specs.Tables.{least_of};
 ghost use Rattle.forms.specs.Worked.{Within};
 ghost use Rattle.forms.specs.Works.{summable, EachWithin};
 ghost use Rattle.forms.specs.BernsteinSound.{bernstein_rules};
@@ -13,6 +14,7 @@ ghost use Rattle.forms.specs.BernsteinSound.{bernstein_rules};
 use crate::answer::Answer;
 use crate::form::Form;
 use crate::grid::along;
+use crate::side::Side;
 use crate::slack::slack;
 use crate::whole::first_tables;
 use crate::work::Work;
@@ -26,7 +28,7 @@ pub struct Bernstein;
 /// Halves a table on the box down to the cell: by all digits of the place of input 1, then of input 2, then of input 3.
 fn halve_table(table: &mut [i64; 64], m: &Mapping, c: &Cell)
     requires { EachWithin summable table.old }
-    ensures value { Fills m.now.degrees table.new (on_cell m.now c.now (grid m.now.degrees table.old)) }
+    ensures value { Fills m.now.degrees table.new (on_cell Low m.now c.now (grid m.now.degrees table.old)) }
     ensures size { EachWithin summable table.new }
 {
     let [first, second, third] = m.degrees;
@@ -40,7 +42,7 @@ fn halve_table(table: &mut [i64; 64], m: &Mapping, c: &Cell)
 
 /// The smaller of two numbers.
 fn smaller(x: i64, y: i64) -> i64
-    ensures value { result ≡ int_min x y }
+    ensures value { result ≡ outer Low x y }
 {
     x.min(y)
 }
@@ -49,7 +51,7 @@ fn smaller(x: i64, y: i64) -> i64
 fn least(table: &[i64; 64], count: usize) -> i64
     requires some { 0 < count }
     requires within { count ≤ 64 }
-    ensures value { result ≡ least (count - 1) (numbers table.now) }
+    ensures value { result ≡ extreme Low (count - 1) (numbers table.now) }
 {
     let mut end = table[0];
     for x in &table[1..count] {
@@ -61,11 +63,24 @@ fn least(table: &[i64; 64], count: usize) -> i64
 /// The least number on the cell of a table on the box, which is used up.
 fn least_on(table: &mut [i64; 64], m: &Mapping, c: &Cell) -> i64
     requires { EachWithin summable table.old }
-    ensures value { result ≡ least_of (degree m.now 0) (degree m.now 1) (degree m.now 2) (on_cell m.now c.now (grid m.now.degrees table.old)) }
+    ensures value { result ≡ least_of (degree m.now 0) (degree m.now 1) (degree m.now 2) (on_cell Low m.now c.now (grid m.now.degrees table.old)) }
     ensures size { Within summable result }
 {
     halve_table(table, m, c);
     least(table, m.terms())
+}
+
+/// One end of the enclosure, from the table of its side, which is used up.
+fn end(table: &mut [i64; 64], m: &Mapping, c: &Cell, side: Side) -> i64
+    requires size { EachWithin summable table.old }
+    requires table { Fills m.now.degrees table.old (held side (on_box side m.now)) }
+    ensures value { result ≡ end side (bernstein m.now c.now) }
+{
+    let least = least_on(table, m, c);
+    match side {
+        Side::Low => least,
+        Side::High => -least,
+    }
 }
 
 impl Form for Bernstein {
@@ -78,8 +93,8 @@ impl Form for Bernstein {
         let mut mirrored = [0; MOST_TERMS];
         first_tables(m, &mut low, &mut mirrored);
         Answer {
-            low: least_on(&mut low, m, c),
-            high: -least_on(&mut mirrored, m, c),
+            low: end(&mut low, m, c, Side::Low),
+            high: end(&mut mirrored, m, c, Side::High),
             slack: slack(m, c),
         }
     }

@@ -18,6 +18,7 @@ mod table;
 mod binomials;
 mod casteljau;
 mod grid;
+mod side;
 mod slack;
 mod weighing;
 mod whole;

@@ -4,7 +4,8 @@ ghost use Rattle.std.specs.NonZero.{non_zero_u64_get};
 ghost use Rattle.mapping.specs.Values.{degree, coefficient};
 ghost use Rattle.forms.specs.Arrays.{numbers, Fills};
 ghost use Rattle.forms.specs.Choose.{factorial};
-ghost use Rattle.forms.specs.Stages.{minus, on_box};
+ghost use Rattle.forms.specs.Stages.{held, on_box};
+ghost use Rattle.forms.specs.declared.side.Side.TheVariants.{Low, High};
 ghost use Rattle.forms.specs.Tables.{numerator};
 ghost use Rattle.forms.specs.Works.{summable, EachWithin, Zeros};
 
@@ -52,12 +53,12 @@ fn numerators(m: &Mapping, table: &mut [i64; 64])
 }
 
 /// Puts into one table of zeros the Bernstein coefficients on the box, rounded down, and into the other one minus the Bernstein
-/// coefficients, rounded down; both in the order of the coefficients.
+/// coefficients, which are rounded up; both in the order of the coefficients.
 pub(crate) fn first_tables(m: &Mapping, low: &mut [i64; 64], mirrored: &mut [i64; 64])
     requires low { Zeros low.old }
     requires high { Zeros mirrored.old }
-    ensures low { Fills m.now.degrees low.new (on_box m.now (coefficient m.now)) }
-    ensures high { Fills m.now.degrees mirrored.new (on_box m.now (minus (coefficient m.now))) }
+    ensures low { Fills m.now.degrees low.new (held Low (on_box Low m.now)) }
+    ensures high { Fills m.now.degrees mirrored.new (held High (on_box High m.now)) }
     ensures sizes { EachWithin summable low.new × EachWithin summable mirrored.new }
 {
     let denominator = denominator(m);

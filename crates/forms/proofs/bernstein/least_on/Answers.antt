@@ -4,6 +4,7 @@ use Rattle.std.proofs.lemmas.Int.{to_z-of_z}
 use Rattle.mapping.specs.Terms.{terms}
 use Rattle.forms.specs.Arrays.{numbers, grid}
 use Rattle.forms.specs.Stages.{on_cell}
+use Rattle.forms.specs.declared.side.Side.TheVariants.{Low}
 use Rattle.forms.specs.Tables.{least}
 use Rattle.forms.specs.Worked.{Within}
 use Rattle.forms.specs.Works.{summable}
@@ -20,6 +21,6 @@ returns c =
     record {
       value =
           is ∙ ap (λ n. least (n - 1) (numbers ys)) c.terms.ensures.value
-          ∙ least_flat m.degrees (numbers ys) (on_cell m c.args.c.now (grid m.degrees c.args.table.now)) some c.halve_table.ensures.value;
+          ∙ least_flat m.degrees (numbers ys) (on_cell Low m c.args.c.now (grid m.degrees c.args.table.now)) some c.halve_table.ensures.value;
       size = subst (Within summable) (sym is) (least_within summable (c.terms.result - 1) ys c.halve_table.ensures.size);
     }

@@ -10,7 +10,6 @@ use Rattle.forms.specs.Worked.{Within}
 use Rattle.forms.proofs.Between.{first_text}
 use Rattle.forms.proofs.Filling.{place_more, places_behind}
 use Rattle.forms.proofs.Grown.{all_zeros}
-use Rattle.forms.specs.Mirror.{first_neg}
 use Rattle.forms.proofs.Places.{flat_below}
 use Rattle.forms.proofs.Bounded.{all_set, summable_fits, word, within_neg, within_down, within_up}
 use Rattle.forms.proofs.whole.first_tables.Goals as goal
@@ -95,7 +94,6 @@ returns c =
           let below : flat m.degrees i j k < c.loop-index.index = omega (arith, flat_below m.degrees i j k il jl kl, c.terms-index-end.ensures.value, c.loop-index-test.false) in
           c.loop-index.invariant.3 (flat m.degrees i j k) below
           ∙ ap neg_ℤ (ap₂ quot_up (c.numerators.ensures.value i j k il jl kl) c.denominator-denominator.ensures.value
-          ∙ first_text quot_up (degree m 0) (degree m 1) (degree m 2) (coefficient m) i j k)
-          ∙ first_neg (degree m 0) (degree m 1) (degree m 2) (coefficient m) i j k;
+          ∙ first_text quot_up (degree m 0) (degree m 1) (degree m 2) (coefficient m) i j k);
       sizes = (c.loop-index.invariant.5, c.loop-index.invariant.6);
     }
