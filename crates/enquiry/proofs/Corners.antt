@@ -1,12 +1,12 @@
 -- Corners are rational points, and a witness stands for its corner. Assumes nothing.
-use Rattle.std.proofs.Common.{◌≡◌, ℕ, zero, suc, ◌+◌, ◌-◌, ◌*◌, ◌^◌, ◌<◌, ◌≤◌, sym, ap, ◌∙◌, mul-le-mul_right, arith, pow-add}
-use Rattle.mapping.specs.Cells.{depth, place, Valid}
+use Rattle.std.proofs.Common.{ℕ, zero, suc, ◌<◌, ◌≤◌, arith}
+use Rattle.mapping.specs.Cells.{Valid}
 use Rattle.mapping.specs.Points.{Rational}
 use Rattle.mapping.specs.Values.{AtLeast, AtMost, value, weight, scaled}
 use Rattle.mapping.specs.declared.cell.Shape.{Shape}
 use Rattle.mapping.specs.declared.mapping.Mapping.{Mapping}
 use Rattle.enquiry.specs.InRegister.{InRegister}
-use Rattle.forms.specs.Nested.{bit, corner_point, corner_ends}
+use Rattle.forms.specs.Nested.{corner_point, corner_ends}
 use Rattle.forms.specs.Corners.{corner_rational, at_corner}
 use Rattle.enquiry.specs.Corners.{witness_at, witness_point}
 

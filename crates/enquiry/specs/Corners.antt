@@ -3,7 +3,7 @@
 --     witness_point w    the witness as a point
 -- Assumes nothing.
 use Rattle.std.specs.Prelude.{ℕ, ◌+◌, ◌-◌, ◌*◌, ◌^◌, [], ◌∷◌, slice_index}
-use Rattle.mapping.specs.Cells.{depth, place}
+use Rattle.mapping.specs.Cells.{place}
 use Rattle.mapping.specs.Points.{Point}
 use Rattle.mapping.specs.declared.cell.Shape.{Shape}
 use Rattle.forms.specs.Nested.{bit}

@@ -1,5 +1,5 @@
 -- What each input adds to the slack, and the slack, in 64 bits. Assumes nothing.
-use Rattle.std.proofs.Common.{◌≡◌, ℕ, zero, suc, ◌+◌, ◌*◌, ◌%◌, ◌^◌, ◌<◌, ◌≤◌, ℤ, pos, ◌+ℤ◌, ◌≤ℤ◌, sym, refl, ap, ◌∙◌, ap₂, mod-eq_of_lt, mul-le-mul, mul-pos, arith, pow_mono, w64, SFits, to_z, of_z}
+use Rattle.std.proofs.Common.{◌≡◌, ℕ, zero, suc, ◌*◌, ◌%◌, ◌^◌, ◌<◌, ◌≤◌, ℤ, pos, ◌+ℤ◌, ◌≤ℤ◌, sym, refl, ap, ◌∙◌, ap₂, mod-eq_of_lt, mul-le-mul, mul-pos, arith, pow_mono, w64, SFits, to_z, of_z}
 use native.Mathlib.Nat.{one-le-pow}
 use borrow.Author.Differences.{fits_in}
 use Rattle.std.proofs.lemmas.Int.{to_z-of_z, to_z_pos}

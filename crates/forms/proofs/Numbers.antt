@@ -3,7 +3,7 @@ use Rattle.std.proofs.Common.{◌≡◌, ℕ, suc, ℤ, pos, ◌*ℤ◌, sym, ap
 use mathlib.Core.Path.{fun_ext}
 use Rattle.arith.specs.Sums.{sum}
 use Rattle.arith.proofs.Ring.{ring}
-use Rattle.arith.proofs.Sums.{sum_ext, sum_swap, sum_scale_right}
+use Rattle.arith.proofs.Sums.{sum_swap, sum_scale_right}
 use Rattle.forms.specs.Choose.{weight}
 use Rattle.forms.specs.Halving.{Row}
 use Rattle.forms.specs.Polynomial.{Table, weighed}

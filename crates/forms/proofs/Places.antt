@@ -1,7 +1,7 @@
 -- Coefficients by their flat place: sums over all of them, and the exponents at a place.
 --     exponent ns v t    the exponent of input v, counted from 0, at the flat place t
 -- Assumes nothing.
-use Rattle.std.proofs.Common.{◌≡◌, ℕ, zero, suc, ◌+◌, ◌*◌, ◌/◌, ◌%◌, ◌<◌, ◌≤◌, List, get_or, ℤ, ◌*ℤ◌, sym, ap, ◌∙◌, ap₂, mod-lt, mul_assoc, add-one, arith}
+use Rattle.std.proofs.Common.{◌≡◌, ℕ, zero, suc, ◌+◌, ◌*◌, ◌/◌, ◌%◌, ◌<◌, ◌≤◌, List, get_or, ℤ, ◌*ℤ◌, sym, ap, ◌∙◌, mod-lt, mul_assoc, add-one, arith}
 use Rattle.std.proofs.lemmas.Nat.{div_below}
 use Rattle.arith.specs.Sums.{sum}
 use Rattle.arith.proofs.Sums.{sum_ext}

@@ -9,7 +9,7 @@ use Rattle.forms.specs.Arrays.{numbers}
 use Rattle.forms.specs.Choose.{factorial, weight}
 use Rattle.forms.specs.Halving.{Row}
 use Rattle.forms.specs.Worked.{Within}
-use Rattle.forms.specs.Works.{weighed_row, summable, EachWithin, grown, Weighable}
+use Rattle.forms.specs.Works.{weighed_row, EachWithin, grown, Weighable}
 use Rattle.forms.proofs.Between.{Between, term_between, sum_between}
 use Rattle.forms.specs.ChooseLemmas.{weight_le}
 

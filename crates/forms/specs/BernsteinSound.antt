@@ -1,5 +1,5 @@
 -- The Bernstein form keeps the rules of a form: its theorems, read off at the points of a cell. Assumes nothing.
-use Rattle.std.specs.Prelude.{ℕ, zero, suc, ◌+◌, ◌*◌, ◌^◌, ◌<◌, ◌≤◌, ℤ, pos, ◌+ℤ◌, ◌-ℤ◌, ◌*ℤ◌, ◌≤ℤ◌}
+use Rattle.std.specs.Prelude.{ℕ, zero, suc, ◌+◌, ◌^◌, ◌<◌, ◌≤◌, ℤ, pos, ◌+ℤ◌, ◌-ℤ◌, ◌*ℤ◌, ◌≤ℤ◌}
 use Rattle.std.proofs.Common.{add-one, arith}
 use Rattle.mapping.specs.Cells.{depth, place}
 use Rattle.mapping.specs.Points.{Point, Rational, Covers, In}

@@ -1,5 +1,5 @@
 -- Which refusal an input gets. Assumes nothing.
-use Rattle.std.proofs.Common.{◌≡◌, ℕ, ◌+◌, ◌-◌, ◌<◌, ◌≤◌, List, length, take, drop, Some, None, sym, refl, ap, ◌∙◌, arith}
+use Rattle.std.proofs.Common.{◌≡◌, ℕ, ◌+◌, ◌-◌, List, take, drop, Some, None, ap, arith}
 use Rattle.std.specs.Option.{option_map}
 use Rattle.mapping.specs.Listed.{first_listed}
 use Rattle.mapping.specs.Records.{record_fault}

@@ -1,5 +1,5 @@
 -- The steps of a job and its lines, one more at a time. Assumes nothing.
-use Rattle.std.proofs.Common.{◌≡◌, ℕ, zero, suc, ◌+◌, ◌<◌, ◌≤◌, List, [], ◌∷◌, ◌++◌, length, get_or, drop, Some, None, Option, sym, refl, ap, ◌∙◌, subst, append_assoc, append-nil, add_assoc, arith}
+use Rattle.std.proofs.Common.{◌≡◌, ℕ, ◌+◌, ◌<◌, ◌≤◌, List, [], ◌∷◌, ◌++◌, length, get_or, drop, Some, None, Option, refl, ap, ◌∙◌, append_assoc, append-nil, add_assoc, arith}
 use Rattle.std.proofs.lemmas.List.{drop_more}
 use Rattle.enquiry.specs.declared.call.Call.{Call}
 use Rattle.enquiry.specs.declared.call.Reply.{Reply}

@@ -1,5 +1,5 @@
 -- A transcript turned into lines. Assumes nothing.
-use Rattle.std.proofs.Common.{◌≡◌, List, [], ◌∷◌, ◌++◌, IfOk, Ok, Err, vec_items, Option, Result, sym, refl, ap, ◌∙◌, subst}
+use Rattle.std.proofs.Common.{◌≡◌, List, [], ◌∷◌, ◌++◌, IfOk, Ok, Err, vec_items, Option, Result, ap, ◌∙◌, subst}
 use Rattle.mapping.specs.declared.mapping.Mapping.{Mapping}
 use Rattle.enquiry.specs.Honest.{Honest}
 use Rattle.enquiry.specs.Runs.{replies, after, seen, reports}

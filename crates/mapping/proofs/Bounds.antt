@@ -1,10 +1,10 @@
 -- Bounds of an exact value: weaker ones follow, and those of one point are in order. Assumes nothing.
-use Rattle.std.proofs.Common.{◌≡◌, ℕ, ◌+◌, ◌^◌, ◌<◌, ◌≤◌, ℤ, pos, ◌*ℤ◌, neg_ℤ, ◌≤ℤ◌, sym, refl, ap, ◌∙◌, subst, arith}
+use Rattle.std.proofs.Common.{◌+◌, ◌<◌, ℤ, pos, ◌≤ℤ◌}
 use native.Mathlib.Nat.{one-le-pow}
 use lib.IntN.{*ℤ_comm}
 use Rattle.arith.proofs.Order.{le_trans, mul_le_right, mul_le_cancel}
 use Rattle.mapping.specs.Points.{Point, Rational}
-use Rattle.mapping.specs.Values.{degree, value, weight, AtLeast, AtMost}
+use Rattle.mapping.specs.Values.{degree, weight, AtLeast, AtMost}
 use Rattle.mapping.specs.declared.mapping.Mapping.{Mapping}
 
 module _ (m : Mapping) (p : Point) where

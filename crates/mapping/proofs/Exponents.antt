@@ -1,6 +1,6 @@
 -- Where coefficients stand: the exponents of a place give the place back. Assumes nothing.
-use Rattle.std.proofs.Common.{◌≡◌, ℕ, zero, suc, ◌+◌, ◌*◌, ◌/◌, ◌%◌, ◌<◌, ◌≤◌, List, get_or, sym, refl, ap, ◌∙◌, arith}
-use Rattle.std.proofs.lemmas.Nat.{div-add-mod', div-mul-add, mod-mul-add}
+use Rattle.std.proofs.Common.{◌≡◌, ℕ, ◌+◌, ◌*◌, ◌/◌, ◌%◌, List, get_or, ap, ◌∙◌}
+use Rattle.std.proofs.lemmas.Nat.{div-add-mod'}
 use Rattle.mapping.specs.Terms.{flat, exponents}
 
 pub flat_exponents : (ns : List ℕ) (t : ℕ) → flat ns (get_or (exponents ns t) 0 0) (get_or (exponents ns t) 1 0) (get_or (exponents ns t) 2 0) ≡ t

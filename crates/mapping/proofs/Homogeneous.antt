@@ -1,6 +1,6 @@
 -- The scaled value is homogeneous in each input: a numerator and a denominator times c give the value times c to the degree.
 -- So a point with a denominator for each input is one with a common denominator. Assumes nothing.
-use Rattle.std.proofs.Common.{◌≡◌, ℕ, zero, suc, ◌+◌, ◌-◌, ◌*◌, ◌^◌, ◌<◌, ◌≤◌, Bool, true, false, cond, eqb, ℤ, pos, ◌*ℤ◌, sym, refl, ap, ◌∙◌, pow-suc, arith, pow-add}
+use Rattle.std.proofs.Common.{◌≡◌, ℕ, zero, suc, ◌-◌, ◌*◌, ◌^◌, ◌<◌, ◌≤◌, cond, eqb, ℤ, pos, ◌*ℤ◌, sym, ap, ◌∙◌, pow-suc, arith, pow-add}
 use native.Mathlib.Nat.{pow-zero}
 use Rattle.arith.specs.Sums.{sum}
 use Rattle.arith.proofs.Ring.{*ℤ-left-comm}

@@ -1,5 +1,5 @@
 -- Bytes that are read as a record: the header's fields found at their places, and what follows where nothing is refused. Assumes nothing.
-use Rattle.std.proofs.Common.{◌≡◌, ℕ, zero, suc, ◌+◌, ◌*◌, ◌^◌, ◌<◌, ◌≤◌, Bool, true, false, cond, not, eqb, ltb, List, [], ◌∷◌, ◌++◌, length, get_or, take, drop, Some, None, Ok, Err, Option, sym, refl, ap, ◌∙◌, subst, append_assoc, arith, length-append}
+use Rattle.std.proofs.Common.{◌≡◌, ℕ, ◌+◌, ◌*◌, ◌^◌, ◌<◌, ◌≤◌, true, false, ltb, List, ◌++◌, length, get_or, take, drop, Some, None, Ok, Err, Option, sym, refl, ap, ◌∙◌, append_assoc, arith, length-append}
 use Rattle.std.proofs.lemmas.List.{take_at, drop_at, drop-drop}
 use Rattle.std.proofs.lemmas.Bool.{lt-ltb, le-ltb}
 use Rattle.std.proofs.lemmas.Bool.Decides.{nat_tests}
@@ -9,7 +9,6 @@ use Rattle.mapping.specs.Listed.{first_listed, outcome}
 use Rattle.mapping.specs.Headers.{header_bits, FitsHeader, header_faults}
 use Rattle.mapping.specs.Records.{header_of, record_fault}
 use Rattle.mapping.specs.declared.header.Header.{Header}
-use Rattle.mapping.specs.declared.fault.RecordFault.{RecordFault}
 use Rattle.mapping.specs.declared.fault.RecordFault.TheVariants.{Short}
 use Rattle.mapping.proofs.Spelling.{length_spell, number_spell, length_bits_of}
 

@@ -1,5 +1,5 @@
 -- Records and mappings, both ways: the bytes of a mapping's record are accepted, and stand for no other mapping. Assumes nothing.
-use Rattle.std.proofs.Common.{◌≡◌, ℕ, zero, suc, ◌+◌, ◌*◌, ◌^◌, ◌<◌, ◌≤◌, Bool, true, false, cond, not, eqb, ltb, List, [], ◌∷◌, ◌++◌, length, get_or, take, drop, ℤ, pos, negsuc, Some, None, sym, refl, ap, ◌∙◌, subst, ⊎_elim, append_assoc, arith, lit<, length-append, w32, SFits, to_z, of_z}
+use Rattle.std.proofs.Common.{◌≡◌, ℕ, zero, suc, ◌+◌, ◌*◌, ◌^◌, ◌<◌, ◌≤◌, false, ltb, List, [], ◌∷◌, ◌++◌, length, get_or, take, ℤ, pos, negsuc, None, sym, refl, ap, ◌∙◌, subst, ⊎_elim, append_assoc, arith, lit<, length-append, w32, to_z, of_z}
 use lib.Signed.{mag}
 use Rattle.std.proofs.lemmas.List.{append-nil, get_or-take, get_or_past, length-take, length-take-le, ext_get_or, nil_from_length}
 use Rattle.std.proofs.lemmas.Int.{to_z-of_z}
@@ -14,8 +14,8 @@ use Rattle.mapping.specs.declared.header.Header.{Header}
 use Rattle.mapping.specs.declared.kind.Kind.{Kind}
 use Rattle.mapping.specs.declared.kind.Kind.TheVariants.{Unsigned8, Signed8, Unsigned16, Signed16, Unsigned12, Signed12, Unsigned14, Signed14}
 use Rattle.mapping.specs.declared.mapping.Mapping.{Mapping}
-use Rattle.mapping.proofs.Spelling.{length_spell, length_field, length_bits_of, same_fields, same_fronts}
-use Rattle.mapping.proofs.Reading.{Same, same_bits, length_header, header_found, same_faults, Accepted, accepted_to}
+use Rattle.mapping.proofs.Spelling.{length_spell, length_bits_of, same_fields, same_fronts}
+use Rattle.mapping.proofs.Reading.{Same, same_bits, length_header, header_found, same_faults, accepted_to}
 use Rattle.mapping.proofs.Same.{same_mapping}
 
 pub length_value_bits : (cs : List ℤ) → length (value_bits cs) ≡ 32 * length cs

@@ -1,10 +1,9 @@
 -- Fields of bits: how they join, and that they can be read back. Assumes nothing.
-use Rattle.std.proofs.Common.{◌≡◌, ℕ, zero, suc, ◌+◌, ◌*◌, ◌/◌, ◌%◌, ◌^◌, ◌<◌, ◌≤◌, List, [], ◌∷◌, ◌++◌, length, get_or, take, drop, sym, refl, ap, ◌∙◌, subst, append_assoc, mod-lt, mod-eq_of_lt, suc-add, pow-suc, zero-add, add-one, arith, length-append, pow_pos}
+use Rattle.std.proofs.Common.{◌≡◌, ℕ, zero, suc, ◌+◌, ◌*◌, ◌/◌, ◌%◌, ◌^◌, ◌<◌, List, [], ◌∷◌, ◌++◌, length, get_or, take, drop, sym, refl, ap, ◌∙◌, append_assoc, mod-lt, mod-eq_of_lt, suc-add, pow-suc, zero-add, arith, length-append, pow_pos}
 use native.Mathlib.Nat.{mod-one, mul-add-div_right}
-use Rattle.std.specs.List.{flat_map}
 use Rattle.std.proofs.lemmas.List.{drop_more, take_at, drop_at}
 use Rattle.std.proofs.lemmas.Nat.{shr-shr, shr_high, shr_split, mod-pow-add}
-use Rattle.mapping.specs.Bits.{spell, number, bits_of, field, Bytes}
+use Rattle.mapping.specs.Bits.{spell, number, bits_of, Bytes}
 
 pub length_spell : (k v : ℕ) → length (spell k v) ≡ k
 unfolding spell

@@ -1,7 +1,7 @@
 -- Counts turned into steps in 64 bits. Assumes nothing.
-use Rattle.std.proofs.Common.{◌≡◌, ℕ, ◌+◌, ◌*◌, ◌%◌, ◌^◌, ◌<◌, ◌≤◌, ◌⊎◌, ℤ, pos, negsuc, ◌*ℤ◌, sym, refl, ap, ◌∙◌, subst, inl, inr, lt_of_le_of_lt, arith, lit<, pow_mono, w32, w64, SFits, to_z, of_z}
+use Rattle.std.proofs.Common.{◌≡◌, ℕ, ◌+◌, ◌*◌, ◌%◌, ◌^◌, ◌≤◌, ◌⊎◌, ℤ, pos, negsuc, ◌*ℤ◌, refl, ap, ◌∙◌, subst, inl, inr, arith, pow_mono, w32, w64, SFits, to_z, of_z}
 use lib.IntN.{*ℤ_comm}
-use borrow.Author.Differences.{up, down, fits_out, fits_in, Within}
+use borrow.Author.Differences.{up, down, fits_out, fits_in}
 use Rattle.std.proofs.lemmas.Nat.{mul-le, one_shl}
 use Rattle.std.proofs.lemmas.Int.{to_z-of_z, to_z_pos}
 use Rattle.arith.proofs.Ring.{scale_is}

@@ -1,5 +1,5 @@
 -- The bit reader's window: what a fetched byte adds to it, and what a field takes off it. Assumes nothing.
-use Rattle.std.proofs.Common.{◌≡◌, ℕ, zero, suc, ◌+◌, ◌-◌, ◌*◌, ◌/◌, ◌%◌, ◌^◌, ◌<◌, ◌≤◌, List, [], ◌∷◌, ◌++◌, length, get_or, drop, sym, refl, ap, ◌∙◌, append_assoc, arith, length-append, length-drop, pow_pos, pow-add}
+use Rattle.std.proofs.Common.{◌≡◌, ℕ, ◌+◌, ◌-◌, ◌*◌, ◌/◌, ◌%◌, ◌^◌, ◌<◌, ◌≤◌, List, ◌++◌, length, get_or, drop, sym, ap, ◌∙◌, append_assoc, arith, length-append, length-drop, pow_pos, pow-add}
 use lib.Bits.{bit_and}
 use Rattle.std.proofs.lemmas.Nat.{shr_split, shr_below, and_mask, one_shl, mod_below}
 use Rattle.mapping.specs.Bits.{spell, bits_of}

@@ -88,7 +88,8 @@ mod tests {
         let mut fresh = Mapping::new();
         assert_eq!(rt; read(&FLAT, &mut fresh), Ok(()));
         assert_eq!(rt; &used, &fresh);
-        assert_eq!(rt; used.coefficients[1], 0);
+        let second = used.coefficients[1];
+        assert_eq!(rt; second, 0);
     }
 
     #[test]
@@ -117,7 +118,7 @@ mod tests {
         assert_eq!(rt; exact, RAMP);
         let mut long = [9; 13];
         assert_eq!(rt; write(&ramp, &mut long), Ok(11));
-        assert_eq!(rt; &long[0..11], &RAMP);
+        assert_eq!(rt; &long[0..11], RAMP.as_slice());
         assert_eq!(rt; (long[11], long[12]), (9, 9));
     }
 }

@@ -2,7 +2,6 @@
 use Rattle.std.proofs.Common.{rules}
 use Rattle.mapping.specs.Cells.{depth, place}
 use Rattle.mapping.specs.Values.{degree}
-use Rattle.forms.specs.Halving.{mean_down, kept, deep}
 use Rattle.forms.specs.Tables.{halved}
 use Rattle.forms.specs.Works.{done}
 use Rattle.forms.specs.declared.work.Work.TheVariants.{Halve}

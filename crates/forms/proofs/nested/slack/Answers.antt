@@ -1,7 +1,6 @@
 use Rattle.std.proofs.Common.{◌≡◌, ◌-◌, ◌*◌, ◌^◌, ◌≤◌, pos, ◌+ℤ◌, ap, ◌∙◌, arith, lit<}
 use Rattle.arith.specs.Rounding.{quot_up}
 use Rattle.mapping.specs.Cells.{depth}
-use Rattle.mapping.specs.Terms.{terms}
 use Rattle.forms.specs.Nested.{nested_slack}
 use Rattle.forms.proofs.Sizes.{slack_fits, slack_read}
 use Rattle.forms.proofs.nested.slack.Goals as goal

@@ -1,5 +1,5 @@
 -- The sum of a row's numbers, each times its weight, in 64 bits. Assumes nothing.
-use Rattle.std.proofs.Common.{◌≡◌, suc, ◌+◌, ◌<◌, ◌*ℤ◌, sym, ap, ◌∙◌, subst, ap₂, add-one, arith, w64, SFits, to_z, of_z, rules}
+use Rattle.std.proofs.Common.{◌≡◌, suc, ◌+◌, ◌<◌, ◌*ℤ◌, sym, ap, ◌∙◌, subst, ap₂, arith, w64, SFits, to_z, of_z, rules}
 use Rattle.std.proofs.lemmas.Int.{to_z-of_z, to_z_pos}
 use Rattle.arith.specs.Sums.{sum}
 use Rattle.arith.proofs.Sums.{sum_none}

@@ -2,7 +2,7 @@
 use Rattle.std.proofs.Common.{◌≡◌, ℕ, ◌<◌, length, ℤ, pos, ◌-ℤ◌, neg_ℤ, sym, refl, ap, ◌∙◌, subst, ap₂, arith, length-set, w64, SFits, to_z, of_z, rules}
 use lib.IntN.{+ℤ_idl}
 use Rattle.arith.specs.Rounding.{quot_down, quot_up}
-use Rattle.mapping.specs.Terms.{terms, flat}
+use Rattle.mapping.specs.Terms.{flat}
 use Rattle.mapping.specs.Values.{degree, coefficient}
 use Rattle.forms.specs.Arrays.{numbers}
 use Rattle.forms.specs.Works.{summable}

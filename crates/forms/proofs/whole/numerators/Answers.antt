@@ -1,12 +1,12 @@
 -- The numerators, input by input, and their sizes. Assumes nothing.
-use Rattle.std.proofs.Common.{◌≡◌, ℕ, ◌^◌, ◌<◌, ◌≤◌, sym, ap, ◌∙◌, subst, arith, rules}
+use Rattle.std.proofs.Common.{◌^◌, ◌≤◌, ap, ◌∙◌, arith, rules}
 use mathlib.Core.Path.{fun_ext}
 use Rattle.mapping.specs.Terms.{flat}
 use Rattle.mapping.specs.Values.{degree}
 use Rattle.mapping.specs.declared.mapping.Mapping.{Mapping}
 use Rattle.forms.specs.Arrays.{numbers}
 use Rattle.forms.specs.Tables.{along1, along2, along3}
-use Rattle.forms.specs.Works.{weighed_row, summable, EachWithin, grown}
+use Rattle.forms.specs.Works.{weighed_row, summable, grown}
 use Rattle.forms.proofs.Filling.{rolled, turned_back}
 use Rattle.forms.proofs.Growth.{grows, three_grown}
 use Rattle.forms.proofs.Numbers.{weighed_along}

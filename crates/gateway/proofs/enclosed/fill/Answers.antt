@@ -1,4 +1,4 @@
-use Rattle.std.proofs.Common.{◌≡◌, ℕ, ◌*◌, ◌/◌, ◌≤◌, length, sym, ◌∙◌, subst, arith}
+use Rattle.std.proofs.Common.{◌≡◌, ◌*◌, sym, ◌∙◌, subst, arith}
 use Rattle.mapping.specs.Cells.{Valid}
 use Rattle.gateway.specs.Enclosing.{meant, cells, Holds, Behind}
 use Rattle.gateway.proofs.Listing.{one_more, behind_more}

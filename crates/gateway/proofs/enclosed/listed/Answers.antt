@@ -1,8 +1,7 @@
 use mathlib.Core.Bool.{false≢true}
-use Rattle.std.proofs.Common.{◌≡◌, sym, refl, ◌∙◌, subst, arith}
+use Rattle.std.proofs.Common.{sym, refl, ◌∙◌, subst, arith}
 use Rattle.mapping.specs.Cells.{Valid}
 use Rattle.mapping.proofs.Halving.{valid_cell}
-use Rattle.gateway.specs.Enclosing.{shape_at}
 use Rattle.gateway.proofs.Listing.{valid_more}
 use Rattle.gateway.proofs.enclosed.listed.Goals as goal
 

@@ -1,7 +1,6 @@
-use Rattle.std.proofs.Common.{◌≡◌, Some, None, sym, refl, inl, inr}
+use Rattle.std.proofs.Common.{sym, refl, inl, inr}
 use Rattle.mapping.specs.Records.{record_fault}
 use Rattle.mapping.proofs.Reading.{passed_from}
-use Rattle.gateway.specs.Enclosing.{form_of, Listed}
 use Rattle.gateway.proofs.enclosed.rangecheck_enclose.Goals as goal
 
 pub returns-then-ends-list : goal.returns-then-ends-list

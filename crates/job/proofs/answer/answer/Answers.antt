@@ -1,4 +1,4 @@
-use Rattle.std.proofs.Common.{◌≡◌, ℕ, ◌-◌, length, take, drop, vec_items, ap, ◌∙◌, subst, inr}
+use Rattle.std.proofs.Common.{◌≡◌, ◌-◌, length, take, drop, vec_items, ap, ◌∙◌, subst, inr}
 use Rattle.std.proofs.lemmas.List.{take_rest}
 use Rattle.enquiry.specs.Honest.{Honest, WitnessTrue}
 use Rattle.enquiry.specs.Runs.{reports}

@@ -1,9 +1,9 @@
-use Rattle.std.proofs.Common.{◌≡◌, List, [], ◌∷◌, ◌++◌, vec_items, sym, refl, ap, ◌∙◌, subst}
+use Rattle.std.proofs.Common.{◌≡◌, [], ◌∷◌, ◌++◌, vec_items, refl, ap, ◌∙◌, subst}
 use Rattle.enquiry.specs.Honest.{WitnessTrue}
 use Rattle.enquiry.specs.Transcripts.{Transcribed}
 use Rattle.job.specs.Answering.{ask}
 use Rattle.job.specs.Calls.{steps_of, valid}
-use Rattle.job.specs.Lines.{merged, last_line}
+use Rattle.job.specs.Lines.{merged}
 use Rattle.job.specs.declared.line.Line.TheVariants.{Range}
 use Rattle.job.proofs.Transcripts.{lines_are, honest_run}
 use Rattle.job.proofs.answer.run_lines.Goals as goal

@@ -1,4 +1,4 @@
-use Rattle.std.proofs.Common.{◌≡◌, ◌+◌, ◌<◌, ◌≤◌, [], ◌∷◌, ◌++◌, length, drop, vec_items, sym, ap, ◌∙◌, append-nil, arith, length-drop}
+use Rattle.std.proofs.Common.{◌≡◌, ◌+◌, ◌<◌, ◌≤◌, ◌∷◌, ◌++◌, length, drop, vec_items, sym, ap, ◌∙◌, append-nil, arith, length-drop}
 use Rattle.job.specs.Calls.{steps_of}
 use Rattle.job.proofs.Steps.{pushed_on, three_more, last_short, nothing_left}
 use Rattle.job.proofs.calls.steps.Goals as goal

@@ -1,4 +1,4 @@
-use Rattle.std.proofs.Common.{◌≡◌, ℕ, ◌^◌, ◌<◌, ◌≢◌, length, pos, sym, refl, ◌∙◌, arith, length-set, get_or-set_other, w32, to_z, of_z}
+use Rattle.std.proofs.Common.{◌≡◌, ◌^◌, ◌<◌, ◌≢◌, length, pos, refl, ◌∙◌, arith, length-set, get_or-set_other, w32, to_z, of_z}
 use lib.Signed.{mag}
 use Rattle.mapping.specs.Unread.{unread}
 use Rattle.mapping.specs.Records.{value_bits}

@@ -1,4 +1,4 @@
-use Rattle.std.proofs.Common.{◌≡◌, ℕ, ◌+◌, ◌*◌, [], ◌∷◌, get_or, refl, ap, ◌∙◌, arith}
+use Rattle.std.proofs.Common.{◌≡◌, ◌+◌, ◌*◌, [], ◌∷◌, get_or, refl, ap, ◌∙◌, arith}
 use Rattle.mapping.specs.Bits.{bits_of}
 use Rattle.mapping.specs.Headers.{header_bits}
 use Rattle.mapping.specs.Kinds.{kind_number}

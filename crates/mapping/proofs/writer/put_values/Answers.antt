@@ -1,4 +1,4 @@
-use Rattle.std.proofs.Common.{◌≡◌, ℕ, ◌+◌, ◌*◌, ◌++◌, length, get_or, take, drop, pos, sym, refl, ap, ◌∙◌, append-nil, arith, take_all, w32, SFits, to_z, of_z, rules}
+use Rattle.std.proofs.Common.{◌≡◌, ◌+◌, ◌*◌, ◌++◌, length, get_or, take, drop, pos, sym, refl, ap, ◌∙◌, append-nil, arith, take_all, w32, SFits, to_z, of_z, rules}
 use Rattle.std.proofs.lemmas.Int.{to_z-of_z}
 use Rattle.mapping.specs.Bits.{spell, bits_of}
 use Rattle.mapping.specs.Records.{value_bits}

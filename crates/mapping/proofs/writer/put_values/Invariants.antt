@@ -1,4 +1,4 @@
-use Rattle.std.proofs.Common.{◌≡◌, ℕ, ◌+◌, ◌*◌, ◌++◌, take, drop}
+use Rattle.std.proofs.Common.{◌≡◌, ◌+◌, ◌*◌, ◌++◌, take, drop}
 use Rattle.mapping.specs.Bits.{bits_of}
 use Rattle.mapping.specs.Records.{value_bits}
 use Rattle.mapping.proofs.writer.put_values.Given as goal

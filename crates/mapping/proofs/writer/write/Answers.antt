@@ -1,4 +1,4 @@
-use Rattle.std.proofs.Common.{◌≡◌, ℕ, ◌+◌, ◌-◌, ◌*◌, ◌<◌, ◌≤◌, List, ◌++◌, length, get_or, take, drop, ℤ, sym, ap, ◌∙◌, subst, zero-add, arith}
+use Rattle.std.proofs.Common.{◌≡◌, ℕ, ◌+◌, ◌*◌, ◌<◌, ◌≤◌, ◌++◌, length, take, drop, ap, subst, zero-add, arith}
 use native.Mathlib.Nat.{sub-zero}
 use Rattle.std.proofs.ByRecursion.{All-from_get_or}
 use Rattle.mapping.specs.Bits.{bits_of, Bytes}

@@ -1,4 +1,4 @@
-use Rattle.std.proofs.Common.{◌≡◌, ℕ, ◌+◌, ◌-◌, ◌*◌, ◌/◌, ◌%◌, ◌^◌, ◌<◌, ◌≤◌, List, ◌++◌, length, get_or, sym, refl, ap, ◌∙◌, subst, lt_of_lt_of_le, arith, pow_pos, pow_mono, rules}
+use Rattle.std.proofs.Common.{◌≡◌, ℕ, ◌-◌, ◌*◌, ◌/◌, ◌%◌, ◌^◌, ◌<◌, List, ◌++◌, length, get_or, sym, refl, ap, ◌∙◌, subst, lt_of_lt_of_le, arith, pow_pos, pow_mono, rules}
 use lib.Bits.{bit_and}
 use Rattle.std.proofs.lemmas.Nat.{mod_below}
 use Rattle.mapping.specs.Bits.{spell}
