@@ -5,13 +5,13 @@
 
 build_library() {
     local kit archive
-    kit="$(dirname "$(dirname "$(rt doc)")")"
+    kit="$(dirname "$(rt doc)")"
     archive="${RANGECHECK_LIBRARY:-}"
     if [ -z "$archive" ]; then
         (cd "$here/crates/gateway" && rt lib) >&2
         archive="$here/crates/gateway/out/libgateway.a"
     fi
-    link=("$archive" "$kit/lib/librattle_c.a")
+    link=("$archive" "$kit/c/liblibc_c.a")
 }
 
 # Compiles a program of plain Rust that links the library: the source, the program, and further options.

@@ -6,8 +6,8 @@
 --     Laws e f d              what holds of the product by this factor, of every enclosure: the next three
 --     Encloses                a number of the enclosure times a number of the factor is a number of the product. The first is
 --                             X / W, the second u / D, and both sides are multiplied by W × D, so that no fraction is needed
---     BoundKept z z'         a bound A on the size of z, from above or from below, holds of z' too
---     WidthBounded           by a factor whose numerators are at most 1 apart, the width grows by at most A / 2^d + 2, where A is
+--     BoundKept z z'          a bound A on the size of z, from above or from below, holds of z' too
+--     WidthBounded            by a factor whose numerators are at most 1 apart, the width grows by at most A / 2^d + 2, where A is
 --                             at least the enclosure's distance from 0. Both sides are multiplied by 2^d
 -- Assumes nothing.
 use Rattle.std.specs.Prelude.{ℕ, ◌+◌, ◌*◌, ◌^◌, ◌≤◌, ℤ, pos, ◌+ℤ◌, ◌-ℤ◌, ◌*ℤ◌, neg_ℤ, ◌≤ℤ◌}

@@ -4,7 +4,7 @@
 --     fraction n d       numerator and denominator; fraction_then n d rest has a space and more behind them
 --     spelled l          the bytes of a line
 -- Assumes nothing.
-use Rattle.std.specs.Prelude.{ℕ, ◌^◌, min, cond, List, ◌++◌, codes, decimal, ◌==◌, slice_index_or}
+use Rattle.std.specs.Prelude.{ℕ, ◌^◌, min, cond, List, ◌++◌, codes, decimal, ◌==◌, slice_index}
 use Rattle.std.specs.Fmt.{signed_decimal}
 use Rattle.enquiry.specs.declared.report.Verdict.{Verdict}
 use Rattle.enquiry.specs.declared.report.Verdict.TheVariants.{Fits, Leaves, Open}
@@ -33,11 +33,11 @@ spelled (line.Point low high) = codes "point " ++ (signed_decimal low ++ (codes 
 spelled (line.No n) = codes "no " ++ decimal n
 spelled (line.Verdict v) = codes "verdict " ++ word v
 spelled (line.Leaves s w) =
-    let n₁ = slice_index_or w.numerators 0 0 in
-    let n₂ = slice_index_or w.numerators 1 0 in
-    let n₃ = slice_index_or w.numerators 2 0 in
-    let d₁ = slice_index_or w.depths 0 0 in
-    let d₂ = slice_index_or w.depths 1 0 in
-    let d₃ = slice_index_or w.depths 2 0 in
+    let n₁ = slice_index w.numerators 0 in
+    let n₂ = slice_index w.numerators 1 in
+    let n₃ = slice_index w.numerators 2 in
+    let d₁ = slice_index w.depths 0 in
+    let d₂ = slice_index w.depths 1 in
+    let d₃ = slice_index w.depths 2 in
     codes "verdict leaves "
     ++ cond (s == 1) (fraction n₁ d₁) (cond (s == 2) (fraction_then n₁ d₁ (fraction n₂ d₂)) (fraction_then n₁ d₁ (fraction_then n₂ d₂ (fraction n₃ d₃))))

@@ -5,8 +5,6 @@ ghost use Rattle.job.specs.Lines.{line_of, merged, last_line};
 use crate::line::Line;
 use enquiry::call::{Call, Reply};
 use enquiry::closed::Closed;
-use enquiry::refusal::Refusal;
-use enquiry::report::Report;
 use mapping::mapping::Mapping;
 use std::alloc::AllocError;
 

@@ -3,7 +3,6 @@ ghost use Rattle.std.specs.Prelude.{◌≡◌};
 ghost use Rattle.job.specs.Loading.{Ended, Loaded};
 
 use crate::fault::LoadFault;
-use mapping::fault::RecordFault;
 use mapping::mapping::Mapping;
 use mapping::record::read;
 

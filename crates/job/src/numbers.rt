@@ -3,7 +3,6 @@ ghost use Rattle.std.specs.Prelude.{◌≡◌};
 ghost use Rattle.job.specs.Loading.{load_number};
 
 use crate::fault::LoadFault;
-use mapping::fault::RecordFault;
 
 impl LoadFault {
     /// The number of the refusal.

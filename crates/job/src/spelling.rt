@@ -4,7 +4,6 @@ ghost use Rattle.job.specs.Spelled.{word, denominator, spelled};
 
 use crate::line::Line;
 use enquiry::report::{Report, Verdict};
-use enquiry::witness::Witness;
 use std::fmt;
 
 /// The word of a verdict.

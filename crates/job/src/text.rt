@@ -12,9 +12,7 @@ fn text_of(heap: Global, lines: &[Line]) -> Result<String, AllocError>
 {
     let mut text = String::new(heap);
     for line in lines {
-        if let Err(_) = text.writeln(line) {
-            return Err(AllocError);
-        }
+        text.writeln(line)?;
     }
     Ok(text)
 }

@@ -1,9 +1,9 @@
 -- The header of a record: eight fields in 24 bits, and what is refused of them.
 --     header_bits h      the fields one after the other: format, inputs, three degrees, kind, shift, two zero bits
---     FitsHeader h      each number fits its field
+--     FitsHeader h       each number fits its field
 --     header_faults h n  the refusals of a header before n bytes in all, each with its condition, in their order
 -- Assumes nothing.
-use Rattle.std.specs.Prelude.{ℕ, ◌+◌, ◌*◌, ◌^◌, ◌<◌, Bool, not, ◌&&◌, ◌||◌, List, [], ◌∷◌, ◌++◌, ◌==◌, nat_lt, slice_index, slice_index_or}
+use Rattle.std.specs.Prelude.{ℕ, ◌+◌, ◌*◌, ◌^◌, ◌<◌, Bool, not, ◌&&◌, ◌||◌, List, [], ◌∷◌, ◌++◌, ◌==◌, nat_lt, slice_index}
 use Rattle.mapping.specs.Bits.{spell}
 use Rattle.mapping.specs.Terms.{terms}
 use Rattle.mapping.specs.declared.header.Header.{Header}
@@ -19,9 +19,9 @@ header_bits h =
 pub record FitsHeader (h : Header) : Type 0 where
   pub format : h.format < 2 ^ 4
   pub inputs : h.inputs < 2 ^ 2
-  pub degree₁ : slice_index_or h.degrees 0 0 < 2 ^ 3
-  pub degree₂ : slice_index_or h.degrees 1 0 < 2 ^ 3
-  pub degree₃ : slice_index_or h.degrees 2 0 < 2 ^ 3
+  pub degree₁ : slice_index h.degrees 0 < 2 ^ 3
+  pub degree₂ : slice_index h.degrees 1 < 2 ^ 3
+  pub degree₃ : slice_index h.degrees 2 < 2 ^ 3
   pub kind : h.kind < 2 ^ 3
   pub shift : h.shift < 2 ^ 4
   pub zeros : h.zeros < 2 ^ 2

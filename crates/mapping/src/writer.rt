@@ -6,7 +6,6 @@ ghost use Rattle.mapping.specs.Records.{header_for, value_bits, record_bits, wri
 
 use crate::fault::WriteFault;
 use crate::fields::{COEFFICIENT, FORMAT, HEADER};
-use crate::kind::Kind;
 use crate::mapping::Mapping;
 use crate::terms::count_terms;
 

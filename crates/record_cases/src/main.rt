@@ -50,10 +50,7 @@ fn main(rt: HostRuntime) -> anyhow::Result<()> {
 
 #[cfg(test)]
 mod tests {
-    use mapping::bits::BitFault;
-    use mapping::cell::{Cell, Shape};
     use mapping::fault::{RecordFault, WriteFault};
-    use mapping::kind::Kind;
     use mapping::mapping::Mapping;
     use mapping::record::read;
     use mapping::writer::write;
