@@ -36,5 +36,5 @@ echo
 size "${link[0]}" | sed 's/^/    /; s/(ex .*)//; s/ *$//'
 echo
 # Bound at the start, so that the first call of a C function does not search for it on the measured stack.
-compile_c "$here/example/stack.c" "$here/target/example/stack" -Wl,-z,now -Wl,--wrap=malloc -Wl,--wrap=free
+compile_c "$here/example/stack.c" "$here/target/example/stack" -Wl,-z,now -Wl,--wrap=malloc -Wl,--wrap=realloc -Wl,--wrap=free
 "$here/target/example/stack"

@@ -1,6 +1,6 @@
 /*
  * How much stack and heap the library takes. Each call runs on a stack of its own, filled with a pattern; how deep the
- * pattern is overwritten is what the call used. malloc and free are wrapped by the linker and counted.
+ * pattern is overwritten is what the call used. malloc, realloc and free are wrapped by the linker and counted.
  */
 #define _XOPEN_SOURCE 600
 
@@ -23,6 +23,7 @@ static ucontext_t outside, inside;
 static size_t heap_now, heap_most;
 
 void *__real_malloc(size_t size);
+void *__real_realloc(void *place, size_t size);
 void __real_free(void *place);
 
 void *__wrap_malloc(size_t size) {
@@ -32,6 +33,25 @@ void *__wrap_malloc(size_t size) {
     }
     memcpy(block, &size, sizeof size);
     heap_now += size;
+    if (heap_now > heap_most) {
+        heap_most = heap_now;
+    }
+    return block + FRONT;
+}
+
+void *__wrap_realloc(void *place, size_t size) {
+    if (place == NULL) {
+        return __wrap_malloc(size);
+    }
+    size_t before;
+    uint8_t *block = (uint8_t *)place - FRONT;
+    memcpy(&before, block, sizeof before);
+    block = __real_realloc(block, size + FRONT);
+    if (block == NULL) {
+        return NULL;
+    }
+    memcpy(block, &size, sizeof size);
+    heap_now = heap_now - before + size;
     if (heap_now > heap_most) {
         heap_most = heap_now;
     }

@@ -11,8 +11,8 @@
  * - A pointer is never NULL, even where its length is 0. It points to at least as many elements as its length says.
  *   Buffers do not overlap. `ends` is aligned as int64_t is.
  * - There is no state between calls, so that threads may call at the same time. rangecheck_job takes memory by
- *   malloc and gives all of it back by free before it returns; the others take none. Since malloc may not be called
- *   in a signal handler, neither may rangecheck_job.
+ *   malloc and realloc and gives all of it back by free before it returns; the others take none. Since malloc may not
+ *   be called in a signal handler, neither may rangecheck_job.
  * - docs/LIBRARY.md has the measured figures of stack use.
  */
 #ifndef RANGECHECK_H
@@ -76,7 +76,7 @@ uint32_t rangecheck_record(const uint8_t *record, size_t record_length);
  *
  * Returns the number of bytes written, which is at least 1; the bytes behind them stay as they were. Or
  *   RANGECHECK_SMALL_OUTPUT  (-1)  the lines do not fit `output`
- *   RANGECHECK_NO_MEMORY     (-2)  malloc gave no memory
+ *   RANGECHECK_NO_MEMORY     (-2)  malloc or realloc gave no memory
  * and then no byte of `output` has changed. A job that is refused is answered by its line, "no" and the number, as
  * docs/JOB.md says; that is no error of this function.
  */

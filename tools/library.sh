@@ -1,6 +1,7 @@
 #!/usr/bin/env bash
 # Sourced by the scripts that link the library. The caller has set `here`, the repository's folder.
-# `build_library` proves and builds the static library and sets `link`: what a linker is given, in this order.
+# `build_library` proves and builds the static library and sets `link`: what a linker is given, in this order: the library, and the kit's
+# archive through which it takes memory.
 # An archive that is built already can be named in the variable RANGECHECK_LIBRARY; then nothing is proved.
 
 build_library() {

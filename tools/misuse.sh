@@ -3,9 +3,10 @@
 # Each is put into a copy of the crate `stages` in place of a comment there; the compiler must refuse it, and for the reason named here.
 set -u
 here="$(cd "$(dirname "$0")/.." && pwd)"
-copy="$(mktemp -d)"
-trap 'rm -rf "$copy"' EXIT
-cp -r "$here/." "$copy"
+copy="$(mktemp -d)/repository"
+trap 'rm -rf "$(dirname "$copy")"' EXIT
+mkdir "$copy"
+(cd "$here" && tar -cf - --exclude=out crates crates.txt) | tar -xf - -C "$copy"
 failed=0
 
 refused() {
