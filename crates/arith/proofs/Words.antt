@@ -1,14 +1,16 @@
 -- The quotients and products as signed words of 64 bits compute them: a word shows as `to_z w64 (of_z w64 z)`, to its bits and back.
 -- Assumes nothing.
-use Rattle.std.proofs.Common.{◌≡◌, ℕ, suc, ◌+◌, ◌-◌, ◌*◌, ◌/◌, ◌%◌, ◌^◌, ◌<◌, ◌≤◌, min, true, false, eqb, ◌⊎◌, ℤ, pos, negsuc, ◌+ℤ◌, ◌*ℤ◌, neg_ℤ, nat_abs, ◌≤ℤ◌, Decides, sym, ap, ◌∙◌, subst, ap₂, inl, inr, mod-lt, mul_comm, mul-suc, div-le_self, arith, pow_mono, w64, SFits, to_z, of_z}
-use native.Mathlib.Nat.{zero-mod, div-add-mod, mul-mod_right}
+use Rattle.std.proofs.Common.{◌≡◌, Bool, ℕ, suc, ◌+◌, ◌-◌, ◌*◌, ◌/◌, ◌%◌, ◌^◌, ◌<◌, ◌≤◌, min, true, false, eqb, ℤ, pos, negsuc, ◌+ℤ◌, ◌*ℤ◌, neg_ℤ, nat_abs, ◌≤ℤ◌, Decides, sym, ap, ◌∙◌, subst, ap₂, mod-lt, mul_comm, mul-suc, div-le_self, arith, pow_mono, w64, SFits, to_z, of_z}
+use mathlib.Core.Bool.{false≢true}
+use native.Mathlib.Nat.{div-add-mod, mul-mod_right}
 use native.Mathlib.Decide.{dec_lt}
 use lib.Count.{count_trailing_zeros}
+use lib.Dec.{leb}
 use lib.Signed.{shr_z, lt_z, nat_abs-le}
 use borrow.Author.Differences.{fits_in}
 use Rattle.std.proofs.lemmas.Nat.{mod-mul-add}
 use Rattle.std.proofs.lemmas.Int.{to_z-of_z, to_z_pos, ints}
-use Rattle.std.proofs.lemmas.Bool.{eqb-true, eq-eqb}
+use Rattle.std.proofs.lemmas.Bool.{eqb-true, eq-eqb, leb-true, le-leb}
 use Rattle.arith.specs.Rounding.{quot_down, quot_up}
 use Rattle.arith.specs.Product.{Tame}
 use Rattle.arith.proofs.Ring.{lin, neg-*ℤ}
@@ -79,46 +81,57 @@ whole_turned (negsuc a) r k m f h above e is =
     )
 
 -- the quotient rounded down, as a call gave it
-pub back : {z q : ℤ} (m : ℕ) → SFits w64 z → q ≡ quot_down (to_z w64 (of_z w64 z)) m → to_z w64 (of_z w64 q) ≡ quot_down z m
+back : {z q : ℤ} (m : ℕ) → SFits w64 z → q ≡ quot_down (to_z w64 (of_z w64 z)) m → to_z w64 (of_z w64 q) ≡ quot_down z m
 back {z} {q} m f e =
     let q_is : q ≡ quot_down z m = e ∙ ap (λ x. quot_down x m) (to_z-of_z w64 z f) in
     to_z-of_z w64 q (subst (SFits w64) (sym q_is) (down_fits w64 z m f)) ∙ q_is
 
--- from the quotient rounded down, y, to the one rounded up
-module _ {z y : ℤ} {m : ℕ} (f : SFits w64 z) (above : 0 < m) (y_is : y ≡ quot_down z m) where
-  pub same_is : nat_abs z % m ≡ 0 → y ≡ quot_up z m
-  same_is h = y_is ∙ sym (up_whole m above z h)
+-- both roundings of z / m, from a call that gave the quotient rounded down, q, and whether nothing was cut off, w
+module _ {z q : ℤ} {m : ℕ} {w : Bool} (f : SFits w64 z) (above : 1 ≤ m) (down : q ≡ quot_down (to_z w64 (of_z w64 z)) m)
+    (whole : Decides w (nat_abs (to_z w64 (of_z w64 z)) % m ≡ 0)) where
+  z_is : to_z w64 (of_z w64 z) ≡ z
+  z_is = to_z-of_z w64 z f
 
-  one_more : 0 < nat_abs z % m → y +ℤ pos 1 ≡ quot_up z m
-  one_more h = ap (λ x. x +ℤ pos 1) y_is ∙ sym (up_cut m above z h)
+  q_is : to_z w64 (of_z w64 q) ≡ quot_down z m
+  q_is = back m f down
 
-  pub next_fits : 0 < nat_abs z % m → SFits w64 (y +ℤ pos 1)
-  next_fits h = subst (SFits w64) (sym (one_more h)) (up_fits w64 z m f)
+  pub same_is : w ≡ true → to_z w64 (of_z w64 q) ≡ quot_up z m
+  same_is t = q_is ∙ sym (up_whole m above z (ap (λ x. nat_abs x % m) (sym z_is) ∙ whole.0 t))
 
-  pub next_is : 0 < nat_abs z % m → to_z w64 (of_z w64 (y +ℤ pos 1)) ≡ quot_up z m
-  next_is h = to_z-of_z w64 (y +ℤ pos 1) (next_fits h) ∙ one_more h
+  one_more : w ≡ false → to_z w64 (of_z w64 q) +ℤ pos 1 ≡ quot_up z m
+  one_more t =
+      let some : ¬ (nat_abs z % m ≡ 0) = λ e. false≢true (sym t ∙ whole.1 (ap (λ x. nat_abs x % m) z_is ∙ e)) in
+      ap (λ x. x +ℤ pos 1) q_is ∙ sym (up_cut m above z (omega (arith, some)))
 
--- ---- what is cut off, as the count of zeros tells it
-zero_bits : (z : ℤ) → SFits w64 z → of_z w64 z ≡ 0 → nat_abs z ≡ 0
-zero_bits (pos a) f e = e
-zero_bits (negsuc a) f e = let k : a < 2 ^ 63 = f.sfits in absurd (omega arith)
+  pub next_fits : w ≡ false → SFits w64 (to_z w64 (of_z w64 q) +ℤ pos 1)
+  next_fits t = subst (SFits w64) (sym (one_more t)) (up_fits w64 z m f)
 
+  pub next_is : w ≡ false → to_z w64 (of_z w64 (to_z w64 (of_z w64 q) +ℤ pos 1)) ≡ quot_up z m
+  next_is t = to_z-of_z w64 (to_z w64 (of_z w64 q) +ℤ pos 1) (next_fits t) ∙ one_more t
+
+-- whether a power of two cuts something off, as the count of zeros tells it. n is the number's size, as a call gave it
 some_bits : (z : ℤ) → ¬ (of_z w64 z ≡ 0) → 0 < nat_abs z
 some_bits (pos a) n = omega arith
 some_bits (negsuc a) n = omega arith
 
--- n is the number's size, as a call gave it
-module _ {z : ℤ} (n : ℕ) (f : SFits w64 z) (e : n ≡ nat_abs (to_z w64 (of_z w64 z))) where
-  size : nat_abs z ≡ n
-  size = sym (e ∙ ap nat_abs (to_z-of_z w64 z f))
+pub whole_power : (z : ℤ) (n d : ℕ) → SFits w64 z → n ≡ nat_abs (to_z w64 (of_z w64 z)) → ¬ (of_z w64 z ≡ 0)
+    → Decides (leb d (count_trailing_zeros 64 n)) (nat_abs z % 2 ^ d ≡ 0)
+whole_power z n d f e some = (
+  λ t. ap (λ x. x % 2 ^ d) size ∙ zeros_whole 64 n d (leb-true d zeros t),
+  λ w. elim (dec_lt zeros d) [
+    | yes l ↦ absurd (omega (arith, sym w, cut l))
+    | no g ↦ le-leb d zeros (omega arith)
+  ],
+)
+  where
+    size : nat_abs z ≡ n
+    size = sym (e ∙ ap nat_abs (to_z-of_z w64 z f))
 
-  pub none_cut : (d : ℕ) → (of_z w64 z ≡ 0) ⊎ ((¬ (of_z w64 z ≡ 0)) × (d ≤ count_trailing_zeros 64 n)) → nat_abs z % 2 ^ d ≡ 0
-  none_cut d (inl h) = ap (λ x. x % 2 ^ d) (zero_bits z f h) ∙ zero-mod (2 ^ d)
-  none_cut d (inr h) = ap (λ x. x % 2 ^ d) size ∙ zeros_whole 64 n d h.1
+    zeros : ℕ
+    zeros = count_trailing_zeros 64 n
 
-  pub some_cut : (d : ℕ) → (¬ (of_z w64 z ≡ 0)) × (count_trailing_zeros 64 n < d) → 0 < nat_abs z % 2 ^ d
-  some_cut d h =
-      rw size (zeros_cut 64 n d (omega (arith, size, nat_abs-le z f.sfits)) (omega (arith, size, some_bits z h.0)) h.1)
+    cut : zeros < d → 0 < nat_abs z % 2 ^ d
+    cut l = rw size (zeros_cut 64 n d (omega (arith, size, nat_abs-le z f.sfits)) (omega (arith, size, some_bits z some)) l)
 
 -- ---- products
 -- what a factor's numerator can be

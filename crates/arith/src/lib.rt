@@ -9,4 +9,4 @@ mod tests;
 
 pub use factor::Factor;
 pub use product::times;
-pub use rounding::{between, down_by, down_by_power, up_by, up_by_power};
+pub use rounding::{Divisor, Power, Quotient, between, down_by, up_by};

@@ -1,60 +1,51 @@
 //! Quotients of signed numbers by positive ones, rounded down or up. Every call has an answer that fits.
 
-ghost use Rattle.std.specs.Prelude.{◌≡◌, ◌%◌, ◌^◌, Decides, unsigned_abs};
+ghost use Rattle.std.specs.Prelude.{◌≡◌, ℕ, ◌%◌, ◌^◌, ◌≤◌, Decides, unsigned_abs};
 ghost use Rattle.std.specs.NonZero.{non_zero_u64_get};
+ghost use Rattle.std.proofs.Common.{pow_pos};
 ghost use Rattle.arith.specs.Rounding.{quot_down, quot_up};
 
 use std::num::NonZeroU64;
 
-/// `z` divided by the `d`-th power of two, rounded down. The power may pass 64 bits: what is left then is 0 or -1.
-pub fn down_by_power(z: i64, d: u32) -> i64
-    ensures value { result ≡ quot_down z (2 ^ d) }
-{
-    by_power(z, d).0
+/// A quotient rounded down, and whether nothing was cut off.
+#[derive(Clone, Copy, PartialEq, Eq, Debug)]
+pub struct Quotient {
+    pub down: i64,
+    pub whole: bool,
 }
 
-/// `z` divided by the `d`-th power of two, rounded up. The power may pass 64 bits: what is left then is 0 or 1.
-pub fn up_by_power(z: i64, d: u32) -> i64
-    ensures value { result ≡ quot_up z (2 ^ d) }
-{
-    by_power(z, d).1
+/// A positive number that is divided by.
+pub trait Divisor: Copy {
+    ghost number: { Self → ℕ };
+
+    /// `z` divided by the number.
+    fn divide(self, z: i64) -> Quotient
+        ensures down { result.down ≡ quot_down z (number self) }
+        ensures whole { Decides result.whole (unsigned_abs z % number self ≡ 0) };
+
+    ghost positive: { (d : Self) → 1 ≤ number d };
 }
 
-/// `z` divided by `m`, rounded down.
-pub fn down_by(z: i64, m: NonZeroU64) -> i64
-    ensures value { result ≡ quot_down z (non_zero_u64_get m) }
+/// `z` divided by a number, rounded down.
+pub fn down_by<D: Divisor>(z: i64, by: D) -> i64
+    ensures value { result ≡ quot_down z (D.Divisor.number by) }
 {
-    between(z, m).0
+    by.divide(z).down
 }
 
-/// `z` divided by `m`, rounded up.
-pub fn up_by(z: i64, m: NonZeroU64) -> i64
-    ensures value { result ≡ quot_up z (non_zero_u64_get m) }
+/// `z` divided by a number, rounded up.
+pub fn up_by<D: Divisor>(z: i64, by: D) -> i64
+    ensures value { result ≡ quot_up z (D.Divisor.number by) }
 {
-    between(z, m).1
+    between(z, by).1
 }
 
-/// Both roundings of `z / 2^d`: the second is one more where something was cut off.
-fn by_power(z: i64, d: u32) -> (i64, i64)
-    ensures down { result.0 ≡ quot_down z (2 ^ d) }
-    ensures up { result.1 ≡ quot_up z (2 ^ d) }
+/// `z` divided by a number, rounded down and rounded up: the second is one more where something was cut off.
+pub fn between<D: Divisor>(z: i64, by: D) -> (i64, i64)
+    ensures down { result.0 ≡ quot_down z (D.Divisor.number by) }
+    ensures up { result.1 ≡ quot_up z (D.Divisor.number by) }
 {
-    let down = z >> d.min(63);
-    let zeros = z.unsigned_abs().trailing_zeros();
-    // 0 is a multiple of every power, and has only 64 zeros to count.
-    if z == 0 || d <= zeros {
-        (down, down)
-    } else {
-        (down, down + 1)
-    }
-}
-
-/// `z` divided by `m`, rounded down and rounded up, with one division.
-pub fn between(z: i64, m: NonZeroU64) -> (i64, i64)
-    ensures down { result.0 ≡ quot_down z (non_zero_u64_get m) }
-    ensures up { result.1 ≡ quot_up z (non_zero_u64_get m) }
-{
-    let (down, whole) = divided(z, m);
+    let Quotient { down, whole } = by.divide(z);
     if whole {
         (down, down)
     } else {
@@ -62,17 +53,46 @@ pub fn between(z: i64, m: NonZeroU64) -> (i64, i64)
     }
 }
 
-/// `z / m` rounded down, and whether nothing was cut off. Of a negative `z`, `!z` is `-z - 1`, which turns the division's rounding
-/// toward 0 into rounding down; it leaves one less than `m` over where nothing is cut off.
-fn divided(z: i64, m: NonZeroU64) -> (i64, bool)
-    ensures down { result.0 ≡ quot_down z (non_zero_u64_get m) }
-    ensures whole { Decides result.1 (unsigned_abs z % non_zero_u64_get m ≡ 0) }
-{
-    if z < 0 {
-        let size = !z as u64;
-        (!((size / m) as i64), size % m == m.get() - 1)
-    } else {
-        let size = z as u64;
-        ((size / m) as i64, size % m == 0)
+/// A power of two, by its exponent. It may pass 64 bits: what is left of a number then is 0 or -1 rounded down, 0 or 1 rounded up.
+#[derive(Clone, Copy, PartialEq, Eq, Debug)]
+pub struct Power(pub u32);
+
+impl Divisor for Power {
+    ghost number = { λ p. 2 ^ p.0 };
+
+    ghost positive = { λ p. pow_pos p.0 };
+
+    fn divide(self, z: i64) -> Quotient {
+        let Power(d) = self;
+        Quotient {
+            down: z >> d.min(63),
+            // 0 is a multiple of every power, and has only 64 zeros to count.
+            whole: z == 0 || d <= z.unsigned_abs().trailing_zeros(),
+        }
+    }
+}
+
+impl Divisor for NonZeroU64 {
+    ghost number = { non_zero_u64_get };
+
+    ghost positive = { λ m. m.ok };
+
+    /// Of a negative `z`, `!z` is `-z - 1`, which turns the division's rounding toward 0 into rounding down; it leaves one less than the
+    /// divisor over where nothing is cut off.
+    fn divide(self, z: i64) -> Quotient {
+        // By `as`, which is shown to lose nothing: no `From` leads from signed numbers to unsigned ones, or back.
+        if z < 0 {
+            let size = !z as u64;
+            Quotient {
+                down: !((size / self) as i64),
+                whole: size % self == self.get() - 1,
+            }
+        } else {
+            let size = z as u64;
+            Quotient {
+                down: (size / self) as i64,
+                whole: size % self == 0,
+            }
+        }
     }
 }

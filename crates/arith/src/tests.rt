@@ -1,24 +1,24 @@
 //! Quotients and products whose answers were worked out by hand.
 
-use crate::{Factor, down_by, down_by_power, times, up_by, up_by_power};
+use crate::{Factor, Power, down_by, times, up_by};
 use std::num::NonZeroU64;
 
 #[test]
 fn powers(rt: HostRuntime) {
-    assert_eq!(rt; down_by_power(-7, 1), -4);
-    assert_eq!(rt; up_by_power(-7, 1), -3);
-    assert_eq!(rt; down_by_power(i64::MIN, 0), i64::MIN);
-    assert_eq!(rt; up_by_power(i64::MIN, 0), i64::MIN);
-    assert_eq!(rt; up_by_power(i64::MIN, 1), -4_611_686_018_427_387_904);
-    assert_eq!(rt; up_by_power(i64::MIN, 63), -1);
-    assert_eq!(rt; down_by_power(i64::MIN, 64), -1);
-    assert_eq!(rt; up_by_power(i64::MIN, 64), 0);
-    assert_eq!(rt; up_by_power(i64::MAX, 0), i64::MAX);
-    assert_eq!(rt; down_by_power(i64::MAX, 1), 4_611_686_018_427_387_903);
-    assert_eq!(rt; up_by_power(i64::MAX, 1), 4_611_686_018_427_387_904);
-    assert_eq!(rt; down_by_power(i64::MAX, 63), 0);
-    assert_eq!(rt; up_by_power(i64::MAX, 64), 1);
-    assert_eq!(rt; up_by_power(0, 100), 0);
+    assert_eq!(rt; down_by(-7, Power(1)), -4);
+    assert_eq!(rt; up_by(-7, Power(1)), -3);
+    assert_eq!(rt; down_by(i64::MIN, Power(0)), i64::MIN);
+    assert_eq!(rt; up_by(i64::MIN, Power(0)), i64::MIN);
+    assert_eq!(rt; up_by(i64::MIN, Power(1)), -4_611_686_018_427_387_904);
+    assert_eq!(rt; up_by(i64::MIN, Power(63)), -1);
+    assert_eq!(rt; down_by(i64::MIN, Power(64)), -1);
+    assert_eq!(rt; up_by(i64::MIN, Power(64)), 0);
+    assert_eq!(rt; up_by(i64::MAX, Power(0)), i64::MAX);
+    assert_eq!(rt; down_by(i64::MAX, Power(1)), 4_611_686_018_427_387_903);
+    assert_eq!(rt; up_by(i64::MAX, Power(1)), 4_611_686_018_427_387_904);
+    assert_eq!(rt; down_by(i64::MAX, Power(63)), 0);
+    assert_eq!(rt; up_by(i64::MAX, Power(64)), 1);
+    assert_eq!(rt; up_by(0, Power(100)), 0);
 }
 
 #[test]
