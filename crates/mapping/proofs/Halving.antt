@@ -1,14 +1,15 @@
 -- The halves of a cell: they are within the limits, and hold each point of the cell between them. Assumes nothing.
-use Rattle.std.proofs.Common.{◌≡◌, ℕ, ◌+◌, ◌*◌, ◌^◌, ◌<◌, ◌≤◌, ◌⊎◌, sym, ap, ◌∙◌, subst, subst₂, inl, inr, ⊎_elim, pow-suc, add-one, arith, length-set}
+use Rattle.std.proofs.Common.{◌≡◌, ℕ, ◌+◌, ◌*◌, ◌^◌, ◌<◌, ◌≤◌, ◌⊎◌, sym, ap, ◌∙◌, subst, get_or, inl, inr, ⊎_elim, pow-suc, add-one, arith, length-set}
 use Rattle.std.proofs.lemmas.List.{get_or-set_same, get_or-set_other}
 use Rattle.std.proofs.lemmas.Bool.{cases_eq, cases_lt}
-use Rattle.mapping.specs.Cells.{depth, place, Valid, half}
+use Rattle.mapping.specs.Cells.{whole_part, depth, place, Valid, half_part, half}
 use Rattle.mapping.specs.Points.{Point, Covers, In}
 use Rattle.mapping.specs.declared.cell.Cell.{Cell}
+use Rattle.mapping.specs.declared.cell.Part.{Part}
 use Rattle.mapping.specs.declared.cell.Shape.{Shape}
 
 pub valid_cell : (c : Cell) → Valid c.shape
-valid_cell c = record { depths3 = c.depths3; places3 = c.places3; shallow = c.shallow; inside = c.inside }
+valid_cell c = record { three = c.three; shallow = c.shallow; inside = c.inside }
 
 -- a fact of depth and place at each input, after input v was given new ones
 each_input : (P : ℕ → ℕ → ℕ → Type 0) (s : Shape) (v side : ℕ) → Valid s → v < 3
@@ -18,17 +19,15 @@ each_input : (P : ℕ → ℕ → ℕ → Type 0) (s : Shape) (v side : ℕ) →
 each_input P s v side ok l here others w h =
     ⊎_elim
     (λ (e : w ≡ v).
-    let d : depth (half s v side) v ≡ depth s v + 1 = get_or-set_same s.depths v (depth s v + 1) 0 (omega (arith, ok.depths3)) in
-    let q : place (half s v side) v ≡ 2 * place s v + side = get_or-set_same s.places v (2 * place s v + side) 0 (omega (arith, ok.places3)) in
-    subst (λ (u : ℕ). P u (depth (half s v side) u) (place (half s v side) u)) (sym e) (subst₂ (P v) (sym d) (sym q) here))
+    let new : get_or (half s v side).parts v whole_part ≡ half_part s v side = get_or-set_same s.parts v (half_part s v side) whole_part (omega (arith, ok.three)) in
+    subst (λ (u : ℕ). P u (depth (half s v side) u) (place (half s v side) u)) (sym e) (subst (λ (p : Part). P v p.depth p.place) (sym new) here))
     (λ (n : w ≡ v → ⊥).
-    subst₂ (P w) (sym (get_or-set_other s.depths v w (depth s v + 1) 0 n)) (sym (get_or-set_other s.places v w (2 * place s v + side) 0 n)) (others w h))
+    subst (λ (p : Part). P w p.depth p.place) (sym (get_or-set_other s.parts v w (half_part s v side) whole_part n)) (others w h))
     (cases_eq w v)
 
 pub half_valid : (s : Shape) (v side : ℕ) → Valid s → v < 3 → side < 2 → depth s v < 10 → Valid (half s v side)
 half_valid s v side ok l b d = record {
-  depths3 = length-set s.depths v (depth s v + 1) ∙ ok.depths3;
-  places3 = length-set s.places v (2 * place s v + side) ∙ ok.places3;
+  three = length-set s.parts v _ ∙ ok.three;
   shallow = each_input (λ w e q. e ≤ 10) s v side ok l (omega arith) ok.shallow;
   inside = each_input (λ w e q. q < 2 ^ e) s v side ok l (doubled (depth s v) (place s v) (ok.inside v l)) ok.inside;
 }

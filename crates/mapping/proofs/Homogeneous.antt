@@ -1,7 +1,7 @@
 -- The scaled value is homogeneous in each input: a numerator and a denominator times c give the value times c to the degree.
 -- So a point with a denominator for each input is one with a common denominator. Assumes nothing.
-use Rattle.std.proofs.Common.{◌≡◌, ℕ, zero, suc, ◌-◌, ◌*◌, ◌^◌, ◌<◌, ◌≤◌, cond, eqb, ℤ, pos, ◌*ℤ◌, sym, ap, ◌∙◌, pow-suc, arith, pow-add}
-use native.Mathlib.Nat.{pow-zero}
+use Rattle.std.proofs.Common.{◌≡◌, ℕ, zero, suc, ◌-◌, ◌*◌, ◌^◌, ◌<◌, ◌≤◌, cond, eqb, ℤ, pos, ◌*ℤ◌, sym, ap, ◌∙◌, arith, pow-add}
+use Rattle.std.proofs.lemmas.Nat.{mul-pow}
 use Rattle.arith.specs.Sums.{sum}
 use Rattle.arith.proofs.Ring.{*ℤ-left-comm}
 use Rattle.arith.proofs.Sums.{sum_ext, sum_scale}
@@ -9,21 +9,11 @@ use Rattle.mapping.specs.Polynomials.{share, poly}
 use Rattle.mapping.specs.Values.{degree, coefficient, scaled}
 use Rattle.mapping.specs.declared.mapping.Mapping.{Mapping}
 
--- a product to a power
-pub mul_power : (a b n : ℕ) → (a * b) ^ n ≡ a ^ n * b ^ n
-mul_power a b zero = rw (pow-zero (a * b), pow-zero a, pow-zero b)
-mul_power a b (suc n) =
-    pow-suc (a * b) n ∙ ap (λ x. x * (a * b)) (mul_power a b n) ∙ regroup (a ^ n) (b ^ n)
-    ∙ sym (ap (λ x. x * b ^ suc n) (pow-suc a n) ∙ ap (λ x. a ^ n * a * x) (pow-suc b n))
-  where
-    regroup : (x y : ℕ) → x * y * (a * b) ≡ x * a * (y * b)
-    regroup x y = omega arith
-
 -- what one input gives, stretched by c
-pub share_stretched : (c n i u D : ℕ) → i ≤ n → share n i (c * u) (c * D) ≡ c ^ n * share n i u D
+share_stretched : (c n i u D : ℕ) → i ≤ n → share n i (c * u) (c * D) ≡ c ^ n * share n i u D
 share_stretched c n i u D h =
     let whole : c ^ n ≡ c ^ i * c ^ (n - i) = ap (λ k. c ^ k) (omega arith) ∙ pow-add c i (n - i) in
-    ap (λ x. x * (c * D) ^ (n - i)) (mul_power c u i) ∙ ap (λ x. c ^ i * u ^ i * x) (mul_power c D (n - i))
+    ap (λ x. x * (c * D) ^ (n - i)) (mul-pow c u i) ∙ ap (λ x. c ^ i * u ^ i * x) (mul-pow c D (n - i))
     ∙ regroup (c ^ i) (c ^ (n - i)) (u ^ i) (D ^ (n - i)) ∙ ap (λ x. x * (u ^ i * D ^ (n - i))) (sym whole)
   where
     regroup : (a b x y : ℕ) → a * x * (b * y) ≡ a * b * (x * y)

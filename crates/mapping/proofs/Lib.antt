@@ -1,6 +1,5 @@
 pub mod Spelling
 pub mod Windows
-pub mod Headers
 pub mod Coefficients
 pub mod Reading
 pub mod Same

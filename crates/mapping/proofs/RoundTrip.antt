@@ -6,13 +6,10 @@ use Rattle.std.proofs.lemmas.Int.{to_z-of_z}
 use Rattle.std.proofs.lemmas.Bool.{cases_lt, le-ltb}
 use Rattle.mapping.specs.Bits.{spell, bits_of}
 use Rattle.mapping.specs.Terms.{terms}
-use Rattle.mapping.specs.Kinds.{kind_number}
 use Rattle.mapping.specs.Listed.{first_listed}
 use Rattle.mapping.specs.Headers.{header_bits, FitsHeader, header_faults}
 use Rattle.mapping.specs.Records.{header_for, header_of, value_bits, record_bits, record_size, record_fault}
 use Rattle.mapping.specs.declared.header.Header.{Header}
-use Rattle.mapping.specs.declared.kind.Kind.{Kind}
-use Rattle.mapping.specs.declared.kind.Kind.TheVariants.{Unsigned8, Signed8, Unsigned16, Signed16, Unsigned12, Signed12, Unsigned14, Signed14}
 use Rattle.mapping.specs.declared.mapping.Mapping.{Mapping}
 use Rattle.mapping.proofs.Spelling.{length_spell, length_bits_of, same_fields, same_fronts}
 use Rattle.mapping.proofs.Reading.{Same, same_bits, length_header, header_found, same_faults, accepted_to}
@@ -23,33 +20,6 @@ unfolding value_bits
 length_value_bits [] = refl
 length_value_bits (c ∷ cs) = length-append (spell 32 (of_z w32 c)) (value_bits cs) ∙ ap (λ n. n + length (value_bits cs)) (length_spell 32 (of_z w32 c)) ∙ ap (λ n. 32 + n) (length_value_bits cs) ∙ omega arith
 
--- ---- kinds
-abbrev kinds : List Kind
-kinds = Unsigned8 ∷ (Signed8 ∷ (Unsigned16 ∷ (Signed16 ∷ (Unsigned12 ∷ (Signed12 ∷ (Unsigned14 ∷ (Signed14 ∷ [])))))))
-
-kind_back : (k : Kind) → get_or kinds (kind_number k) Unsigned8 ≡ k
-kind_back Unsigned8 = refl
-kind_back Signed8 = refl
-kind_back Unsigned16 = refl
-kind_back Signed16 = refl
-kind_back Unsigned12 = refl
-kind_back Signed12 = refl
-kind_back Unsigned14 = refl
-kind_back Signed14 = refl
-
-pub same_kind : (j k : Kind) → kind_number j ≡ kind_number k → j ≡ k
-same_kind j k e = sym (kind_back j) ∙ ap (λ n. get_or kinds n Unsigned8) e ∙ kind_back k
-
-pub kind_below : (k : Kind) → kind_number k < 8
-kind_below Unsigned8 = lit< tt
-kind_below Signed8 = lit< tt
-kind_below Unsigned16 = lit< tt
-kind_below Signed16 = lit< tt
-kind_below Unsigned12 = lit< tt
-kind_below Signed12 = lit< tt
-kind_below Unsigned14 = lit< tt
-kind_below Signed14 = lit< tt
-
 -- ---- the record of a mapping
 module _ (m : Mapping) where
   pub header_fits : FitsHeader (header_for m)
@@ -59,7 +29,6 @@ module _ (m : Mapping) where
     degree₁ = omega (arith, m.low 0 (lit< tt));
     degree₂ = omega (arith, m.low 1 (lit< tt));
     degree₃ = omega (arith, m.low 2 (lit< tt));
-    kind = kind_below m.kind;
     shift = omega (arith, m.fine);
     zeros = lit< tt;
   }
@@ -169,7 +138,7 @@ module _ (a b : Mapping) (bs : List ℕ) (e : bits_of bs ≡ record_bits a) (f :
   pub one_mapping : a ≡ b
   one_mapping =
       same_mapping a b (sym (header_at a bs e).inputs ∙ (header_at b bs f).inputs) same_degrees
-      (same_kind a.kind b.kind (sym (header_at a bs e).kind ∙ (header_at b bs f).kind))
+      (sym (header_at a bs e).kind ∙ (header_at b bs f).kind)
       (sym (header_at a bs e).shift ∙ (header_at b bs f).shift) same_coefficients
 
 -- what was read as a header and its coefficients is the record of the mapping made from them

@@ -1,7 +1,7 @@
 -- Fields of bits: how they join, and that they can be read back. Assumes nothing.
-use Rattle.std.proofs.Common.{◌≡◌, ℕ, zero, suc, ◌+◌, ◌*◌, ◌/◌, ◌%◌, ◌^◌, ◌<◌, List, [], ◌∷◌, ◌++◌, length, get_or, take, drop, sym, refl, ap, ◌∙◌, append_assoc, mod-lt, mod-eq_of_lt, suc-add, pow-suc, zero-add, arith, length-append, pow_pos}
+use Rattle.std.proofs.Common.{◌≡◌, ℕ, zero, suc, ◌+◌, ◌*◌, ◌/◌, ◌%◌, ◌^◌, ◌<◌, List, [], ◌∷◌, ◌++◌, length, take, drop, sym, refl, ap, ◌∙◌, append_assoc, mod-lt, mod-eq_of_lt, suc-add, pow-suc, zero-add, arith, length-append, pow_pos}
 use native.Mathlib.Nat.{mod-one, mul-add-div_right}
-use Rattle.std.proofs.lemmas.List.{drop_more, take_at, drop_at}
+use Rattle.std.proofs.lemmas.List.{take_at, drop_at}
 use Rattle.std.proofs.lemmas.Nat.{shr-shr, shr_high, shr_split, mod-pow-add}
 use Rattle.mapping.specs.Bits.{spell, number, bits_of, Bytes}
 
@@ -52,10 +52,6 @@ number_spell_mod (suc k) v =
 pub number_spell : (k v : ℕ) → v < 2 ^ k → number (spell k v) ≡ v
 number_spell k v h = number_spell_mod k v ∙ mod-eq_of_lt h
 
--- a field and then another part, as one part
-pub joined_field : (k x : ℕ) (part u v w : List ℕ) → u ≡ spell k x ++ v → v ≡ part ++ w → u ≡ (spell k x ++ part) ++ w
-joined_field k x part u v w e f = e ∙ ap (λ r. spell k x ++ r) f ∙ sym (append_assoc (spell k x) part w)
-
 -- two lists that begin with parts of one length are equal part by part
 pub same_fronts : {A : Type 0} (a b x y : List A) → length a ≡ length b → a ++ x ≡ b ++ y → (a ≡ b) × (x ≡ y)
 same_fronts a b x y l e = (
@@ -77,9 +73,6 @@ pub bits_of_append : (cs bs : List ℕ) → bits_of (cs ++ bs) ≡ bits_of cs ++
 unfolding bits_of
 bits_of_append [] bs = refl
 bits_of_append (a ∷ cs) bs = ap (λ r. spell 8 a ++ r) (bits_of_append cs bs) ∙ sym (append_assoc (spell 8 a) (bits_of cs) (bits_of bs))
-
-pub bits_of_drop : (bs : List ℕ) (i : ℕ) → i < length bs → bits_of (drop i bs) ≡ spell 8 (get_or bs i 0) ++ bits_of (drop (i + 1) bs)
-bits_of_drop bs i h = ap bits_of (drop_more bs i 0 h) ∙ bits_of_cons (get_or bs i 0) (drop (i + 1) bs)
 
 pub length_bits_of : (bs : List ℕ) → length (bits_of bs) ≡ 8 * length bs
 unfolding bits_of

@@ -24,12 +24,11 @@ fits_steps x k f h =
     one_side (pos n) = inr refl
     one_side (negsuc n) = inl refl
 
-pub in_steps : (x : ℤ) (q : ℕ) → SFits w32 x → q ≤ 15 → to_z w64 (of_z w64 (to_z w64 (of_z w64 (to_z w32 (of_z w32 x))) *ℤ to_z w64 (1 * 2 ^ q % 2 ^ 64))) ≡ x *ℤ pos (2 ^ q)
+pub in_steps : (x : ℤ) (q : ℕ) → SFits w32 x → q ≤ 15 → to_z w64 (of_z w64 (to_z w64 (of_z w64 x) *ℤ to_z w64 (1 * 2 ^ q % 2 ^ 64))) ≡ x *ℤ pos (2 ^ q)
 in_steps x q f h =
     let small : 2 ^ q ≤ 32768 = pow_mono h in
     let narrow : SFits w64 x = record { sfits = omega (arith, f.sfits) } in
-    let left : to_z w64 (of_z w64 (to_z w32 (of_z w32 x))) ≡ x = ap (λ z. to_z w64 (of_z w64 z)) (to_z-of_z w32 x f) ∙ to_z-of_z w64 x narrow in
     let right : to_z w64 (1 * 2 ^ q % 2 ^ 64) ≡ pos (2 ^ q) = ap (to_z w64) (one_shl q 64 (omega arith)) ∙ to_z_pos w64 (2 ^ q) (omega arith) in
-    ap (λ z. to_z w64 (of_z w64 (z *ℤ to_z w64 (1 * 2 ^ q % 2 ^ 64)))) left
+    ap (λ z. to_z w64 (of_z w64 (z *ℤ to_z w64 (1 * 2 ^ q % 2 ^ 64)))) (to_z-of_z w64 x narrow)
     ∙ ap (λ z. to_z w64 (of_z w64 (x *ℤ z))) right
     ∙ to_z-of_z w64 (x *ℤ pos (2 ^ q)) (fits_steps x (2 ^ q) f small)

@@ -1,15 +1,15 @@
 -- Bytes that are written as a record. Assumes nothing.
-use Rattle.std.proofs.Common.{◌≡◌, ℕ, ◌+◌, ◌-◌, ◌*◌, ◌/◌, ◌%◌, ◌<◌, ◌≤◌, false, ltb, List, [], ◌∷◌, ◌++◌, length, get_or, take, drop, ℤ, pos, Ok, Err, sym, ap, ◌∙◌, append_assoc, div-one, arith, w32, of_z}
+use Rattle.std.specs.Int.{to_be_bytes}
+use Rattle.std.specs.List.{flat_map}
+use Rattle.std.proofs.Common.{map, refl, ◌≡◌, ℕ, ◌+◌, ◌*◌, ◌/◌, ◌%◌, ◌<◌, ◌≤◌, List, [], ◌∷◌, ◌++◌, length, get_or, take, ℤ, pos, sym, ap, ◌∙◌, append_assoc, div-one, arith, w32, of_z}
 use Rattle.std.proofs.ByRecursion.{All-take}
-use Rattle.std.proofs.lemmas.List.{drop-drop, take_more, length-take-le}
-use Rattle.std.proofs.lemmas.Bool.{le-ltb, cond-false}
+use Rattle.std.proofs.lemmas.List.{ext_get_or, length-map, get_or-map, take-map, length-take-le}
+use Rattle.std.proofs.lemmas.List.Folds.{flat_map-map}
 use Rattle.mapping.specs.Bits.{spell, bits_of, Bytes}
 use Rattle.mapping.specs.Terms.{terms}
 use Rattle.mapping.specs.Headers.{header_bits}
-use Rattle.mapping.specs.Records.{value_bits, header_for, record_bits, record_size, written}
-use Rattle.mapping.specs.declared.fault.WriteFault.TheVariants.{SmallBuffer}
+use Rattle.mapping.specs.Records.{value_bits, header_for, record_bits, record_size}
 use Rattle.mapping.specs.declared.mapping.Mapping.{Mapping}
-use Rattle.mapping.proofs.Coefficients.{value_bits_push}
 use Rattle.mapping.proofs.RoundTrip.{record_length}
 use Rattle.mapping.proofs.Spelling.{spell_append, spell_bytes, bits_of_append, same_bytes}
 
@@ -42,72 +42,38 @@ header_number s n₁ n₂ n₃ k q hs h₁ h₂ h₃ hk hq =
     ∙ ap (λ r. (((((r ++ spell 3 n₁) ++ spell 3 n₂) ++ spell 3 n₃) ++ spell 3 k) ++ spell 4 q) ++ spell 2 0) (spell_append 4 2 1 s hs)
     ∙ simp append_assoc
 
--- lists that are alike from m on are alike from further on
-pub drop_further : {A : Type 0} (m n : ℕ) (xs ys : List A) → m ≤ n → drop m xs ≡ drop m ys → drop n xs ≡ drop n ys
-drop_further m n xs ys l e =
-    let k : n ≡ m + (n - m) = omega arith in
-    ap (λ i. drop i xs) k ∙ sym (drop-drop (n - m) m xs) ∙ ap (drop (n - m)) e ∙ drop-drop (n - m) m ys ∙ ap (λ i. drop i ys) (sym k)
+-- the bytes of coefficients, each with the most significant first
+abbrev pub big_endian : ℤ → List ℕ
+big_endian c = to_be_bytes w32 (of_z w32 c)
 
--- a buffer after one coefficient more, at the place behind those that were written
-module _ (start : List ℕ) (values : List ℤ) (k : ℕ) (out out' bytes : List ℕ) (within : k < length values) (four : length bytes ≡ 4) where
-  pub value_written : bits_of bytes ≡ spell 32 (of_z w32 (get_or values k (pos 0)))
-      → bits_of (take (3 + 4 * k) out) ≡ start ++ value_bits (take k values)
-      → take (3 + 4 * k + length bytes) out' ≡ take (3 + 4 * k) out ++ bytes
-      → bits_of (take (3 + 4 * (k + 1)) out') ≡ start ++ value_bits (take (k + 1) values)
-  value_written bits e front =
-      let x = get_or values k (pos 0) in
-      let at : 3 + 4 * (k + 1) ≡ 3 + 4 * k + length bytes = omega arith in
-      let more : value_bits (take (k + 1) values) ≡ value_bits (take k values) ++ spell 32 (of_z w32 x) =
-      ap value_bits (take_more values k (pos 0) within) ∙ value_bits_push (take k values) x in
-      ap (λ n. bits_of (take n out')) at ∙ ap bits_of front ∙ bits_of_append (take (3 + 4 * k) out) bytes
-      ∙ ap (λ r. r ++ bits_of bytes) e ∙ ap (λ r. (start ++ value_bits (take k values)) ++ r) bits
-      ∙ append_assoc start (value_bits (take k values)) (spell 32 (of_z w32 x))
-      ∙ ap (λ r. start ++ r) (sym more)
+value_bytes : (cs : List ℤ) → bits_of (flat_map big_endian cs) ≡ value_bits cs
+unfolding value_bits bits_of
+value_bytes [] = refl
+value_bytes (c ∷ cs) =
+    bits_of_append (big_endian c) (flat_map big_endian cs)
+    ∙ ap (λ r. r ++ bits_of (flat_map big_endian cs)) (four_bytes (of_z w32 c))
+    ∙ ap (λ r. spell 32 (of_z w32 c) ++ r) (value_bytes cs)
 
-  pub rest_kept : (before : List ℕ) → drop (3 + 4 * k) out ≡ drop (3 + 4 * k) before
-      → drop (3 + 4 * k + length bytes) out' ≡ drop (3 + 4 * k + length bytes) out
-      → drop (3 + 4 * (k + 1)) out' ≡ drop (3 + 4 * (k + 1)) before
-  rest_kept before e rest =
-      let at : 3 + 4 * (k + 1) ≡ 3 + 4 * k + length bytes = omega arith in
-      ap (λ n. drop n out') at ∙ rest ∙ ap (λ n. drop n out) (sym at)
-      ∙ drop_further (3 + 4 * k) (3 + 4 * (k + 1)) out before (omega arith) e
-
--- the whole record, from its two parts: what was written first, and what both leave
-module _ (m : Mapping) (n : ℕ) (is : n ≡ terms m.degrees) (before between after header : List ℕ)
-    (spelled : bits_of header ≡ header_bits (header_for m)) (three : length header ≡ 3) where
-  values : List ℤ
-  values = take n m.coefficients
-
-  length_values : length values ≡ n
-  unfolding values
-  length_values = length-take-le n m.coefficients (omega (arith, m.small, m.table))
-
-  pub record_written : take (length header) between ≡ header
-      → bits_of (take (3 + 4 * length (take n m.coefficients)) after) ≡ bits_of (take 3 between) ++ value_bits (take n m.coefficients)
-      → bits_of (take (3 + 4 * n) after) ≡ record_bits m
-  unfolding values record_bits
-  record_written front bits =
-      ap (λ k. bits_of (take (3 + 4 * k) after)) (sym length_values) ∙ bits
-      ∙ ap (λ k. bits_of (take k between) ++ value_bits values) (sym three)
-      ∙ ap (λ bs. bits_of bs ++ value_bits values) front
-      ∙ ap (λ r. r ++ value_bits values) spelled
-      ∙ ap (λ k. header_bits (header_for m) ++ value_bits (take k m.coefficients)) is
-
-  pub rest_written : drop (length header) between ≡ drop (length header) before
-      → drop (3 + 4 * length (take n m.coefficients)) after ≡ drop (3 + 4 * length (take n m.coefficients)) between
-      → drop (3 + 4 * n) after ≡ drop (3 + 4 * n) before
-  unfolding values
-  rest_written first rest =
-      ap (λ k. drop (3 + 4 * k) after) (sym length_values) ∙ rest ∙ ap (λ k. drop (3 + 4 * k) between) length_values
-      ∙ drop_further (length header) (3 + 4 * n) between before (omega arith) first
+-- the whole record, from its two parts
+module _ (m : Mapping) (header : List ℕ) (bytes : List (List ℕ)) where
+  pub record_written : bits_of header ≡ header_bits (header_for m) → length bytes ≡ 64
+      → ((k : ℕ) → k < 64 → get_or bytes k [] ≡ big_endian (get_or m.coefficients k (pos 0)))
+      → bits_of (header ++ flat_map (λ x. x) (take (terms m.degrees) bytes)) ≡ record_bits m
+  unfolding record_bits
+  record_written spelled full each =
+      let n = terms m.degrees in
+      let all : bytes ≡ map big_endian m.coefficients =
+      ext_get_or [] bytes (map big_endian m.coefficients) (full ∙ sym (length-map m.coefficients big_endian ∙ m.table))
+      (λ k h. each k (omega arith) ∙ sym (get_or-map big_endian m.coefficients k (pos 0) [] (omega (arith, m.table)))) in
+      let values : flat_map (λ x. x) (take n bytes) ≡ flat_map big_endian (take n m.coefficients) =
+      ap (λ bs. flat_map (λ x. x) (take n bs)) all ∙ ap (flat_map (λ x. x)) (take-map big_endian n m.coefficients)
+      ∙ flat_map-map (λ x. x) big_endian (take n m.coefficients) in
+      bits_of_append header (flat_map (λ x. x) (take n bytes))
+      ∙ ap (λ r. r ++ bits_of (flat_map (λ x. x) (take n bytes))) spelled
+      ∙ ap (λ bs. header_bits (header_for m) ++ bits_of bs) values
+      ∙ ap (λ r. header_bits (header_for m) ++ r) (value_bytes (take n m.coefficients))
 
 -- what a buffer begins with is the one record of the mapping
 pub begins_with : (m : Mapping) (n : ℕ) (out bs : List ℕ) → n ≡ record_size m → n ≤ length out → Bytes out → Bytes bs → bits_of (take n out) ≡ record_bits m → bits_of bs ≡ record_bits m → take n out ≡ bs
 begins_with m n out bs is fits p q e f =
     same_bytes (take n out) bs (All-take (λ b. b < 256) n out p) q (length-take-le n out fits ∙ is ∙ sym (record_length m bs f)) (e ∙ sym f)
-
--- a record that fits is written
-pub written_fits : (m : Mapping) (n k : ℕ) → k ≡ record_size m → k ≤ n → Ok k ≡ written m n
-written_fits m n k is l =
-    let fits : ltb n (record_size m) ≡ false = le-ltb n (record_size m) (omega (arith, is)) in
-    ap Ok is ∙ sym (cond-false (ltb n (record_size m)) (Err SmallBuffer) (Ok (record_size m)) fits)

@@ -4,8 +4,9 @@
 --     bits_of bytes      the bits of bytes, one byte after the other
 --     field bytes p k    the number in the k bits from bit p on
 --     Bytes bs           each number is a byte
+--     Taken w u r t      taking a field of w bits off the bits u, which leaves t, gives the number r, or a fault where u has fewer
 -- Assumes nothing.
-use Rattle.std.specs.Prelude.{ℕ, zero, suc, ◌+◌, ◌*◌, ◌/◌, ◌%◌, ◌^◌, ◌<◌, List, [], ◌∷◌, length, take, drop}
+use Rattle.std.specs.Prelude.{◌≡◌, ℕ, zero, suc, ◌+◌, ◌*◌, ◌/◌, ◌%◌, ◌^◌, ◌<◌, List, [], ◌∷◌, ◌++◌, length, take, drop, Ok, Err, Result}
 use Rattle.std.specs.List.{flat_map, AllByRecursion}
 
 unfoldable pub spell : ℕ → ℕ → List ℕ
@@ -24,3 +25,7 @@ field bytes p k = number (take k (drop p (bits_of bytes)))
 
 abbrev pub Bytes : List ℕ → Type 0
 Bytes bs = AllByRecursion (λ b. b < 256) bs
+
+abbrev pub Taken : {F : Type 0} → ℕ → List ℕ → Result ℕ F → List ℕ → Type 0
+Taken width before (Ok v) after = (v < 2 ^ width) × (before ≡ spell width v ++ after) × (length before ≡ width + length after)
+Taken width before (Err f) after = (length before < width) × (after ≡ before)

@@ -1,10 +1,12 @@
 -- The eight register kinds.
 --     kind_number k      the number that stands for it in a record
+--     Numbered n r       the kind that has number n; none, and the number back, from 8 on
 --     count_low k        the lowest count that the register holds
 --     count_high k       the highest
 -- Assumes nothing.
-use Rattle.std.specs.Prelude.{ℕ, ℤ, pos, negsuc}
+use Rattle.std.specs.Prelude.{◌≡◌, ℕ, ◌≤◌, ℤ, pos, negsuc, Result, MatchResult}
 use Rattle.mapping.specs.declared.kind.Kind.{Kind}
+use Rattle.mapping.specs.declared.kind.UnknownKind.{UnknownKind}
 use Rattle.mapping.specs.declared.kind.Kind.TheVariants.{Unsigned8, Signed8, Unsigned16, Signed16, Unsigned12, Signed12, Unsigned14, Signed14}
 
 abbrev pub kind_number : Kind → ℕ
@@ -16,6 +18,9 @@ kind_number Unsigned12 = 4
 kind_number Signed12 = 5
 kind_number Unsigned14 = 6
 kind_number Signed14 = 7
+
+abbrev pub Numbered : ℕ → Result Kind UnknownKind → Type 0
+Numbered n r = MatchResult r (λ k. kind_number k ≡ n) (λ e. (8 ≤ n) × (e.0 ≡ n))
 
 abbrev pub count_low : Kind → ℤ
 count_low Unsigned8 = pos 0

@@ -1,6 +1,5 @@
 pub mod Terms
 pub mod Bits
-pub mod Unread
 pub mod Kinds
 pub mod Faults
 pub mod Listed
@@ -11,3 +10,5 @@ pub mod Points
 pub mod Registers
 pub mod Polynomials
 pub mod Values
+pub mod Framed
+pub mod Packed

@@ -1,9 +1,8 @@
 // The bit reader: fields of a byte slice, most significant bit first.
-ghost use Rattle.std.specs.Prelude.{◌≡◌, ℕ, ◌+◌, ◌^◌, ◌<◌, ◌≤◌, ◌++◌, length, Ok, Err};
-ghost use Rattle.mapping.specs.Bits.{spell, bits_of};
-ghost use Rattle.mapping.specs.Unread.{unread};
+ghost use Rattle.std.specs.Prelude.{◌≡◌, ◌≤◌};
+ghost use Rattle.mapping.specs.Bits.{bits_of, Taken};
 
-use crate::reader::BitReader;
+use std::marker::Model;
 
 /// Why a field could not be read.
 #[derive(Clone, Copy, PartialEq, Eq, Debug)]
@@ -12,14 +11,34 @@ pub enum BitFault {
     Ended,
 }
 
+/// Bytes that are read as fields of bits. To its callers it is the list of the bits that are left.
+#[derive(Drop)]
+pub(crate) struct BitReader<'a> {
+    /// What is not fetched yet.
+    rest: &'a [u8],
+    /// The lowest `held` bits are fetched and not yet given out; the others are zero.
+    window: u64,
+    held: u32,
+}
+
+impl<'a> Model for BitReader<'a> {
+    ghost use Rattle.std.specs.Prelude.{ℕ, ◌^◌, ◌<◌, List, ◌++◌};
+    ghost use Rattle.mapping.specs.Bits.{spell, bits_of};
+
+    ghost Value = { List ℕ };
+
+    ghost view = { λ r. spell r.held r.window ++ bits_of r.rest.now };
+
+    ghost invariant = { λ r. (r.held < 8) × (r.window < 2 ^ r.held) };
+}
+
 impl<'a> BitReader<'a> {
     /// A reader at the first bit of `bytes`.
     pub(crate) fn new(bytes: &'a [u8]) -> BitReader<'a>
-        ensures value { unread result ≡ bits_of bytes.now }
+        ensures value { result ≡ bits_of bytes.now }
     {
         BitReader {
-            bytes,
-            fetched: 0,
+            rest: bytes,
             window: 0,
             held: 0,
         }
@@ -28,24 +47,34 @@ impl<'a> BitReader<'a> {
     /// The next field of `width` bits. Where fewer are left, nothing is read.
     pub(crate) fn take(&mut self, width: u32) -> Result<u32, BitFault>
         requires { width ≤ 32 }
-        ensures value { elim result [ Ok v ↦ (v < 2 ^ width) × (unread self.old ≡ spell width v ++ unread self.new) × (length (unread self.old) ≡ width + length (unread self.new)) | Err f ↦ (length (unread self.old) < width) × (self.new ≡ self.old) ] }
+        ensures value { Taken width self.old result self.new }
     {
+        let mut rest = self.rest;
         let mut window = self.window;
         let mut held = self.held;
-        let mut fetched = self.fetched;
         while held < width {
-            if fetched >= self.bytes.len() {
+            let Some((first, others)) = rest.split_first() else {
                 return Err(BitFault::Ended);
-            }
-            window = window * 256 + self.bytes[fetched] as u64;
+            };
+            rest = others;
+            window = window * 256 + u64::from(*first);
             held += 8;
-            fetched += 1;
         }
         let left = held - width;
         let value = window >> left;
+        self.rest = rest;
         self.window = window & ((1 << left) - 1);
         self.held = left;
-        self.fetched = fetched;
+        // By `as`, which is shown to lose nothing: `try_from` would add a refusal that can't come.
         Ok(value as u32)
+    }
+
+    /// The next field of at most eight bits.
+    pub(crate) fn take_byte(&mut self, width: u32) -> Result<u8, BitFault>
+        requires { width ≤ 8 }
+        ensures value { Taken width self.old result self.new }
+    {
+        // By `as`, as in `take`.
+        Ok(self.take(width)? as u8)
     }
 }

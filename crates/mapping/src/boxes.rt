@@ -1,9 +1,9 @@
 // Making cells: the whole box, a checked shape, and the halves of a cell.
-ghost use Rattle.std.specs.Prelude.{◌≡◌, ℕ, ◌-◌, ◌<◌, ◌≤◌, ◌⊎◌, length, IfSome, MatchOption};
+ghost use Rattle.std.specs.Prelude.{◌≡◌, ◌-◌, ◌<◌, ◌⊎◌, IfSome, MatchOption};
 ghost use Rattle.mapping.specs.Cells.{depth, Valid, box, half, Halves};
 ghost use Rattle.mapping.specs.Points.{Point, Rational, In};
 
-use crate::cell::{Cell, DEEPEST, Shape};
+use crate::cell::{Cell, DEEPEST, Part, Shape};
 
 impl Cell {
     /// The whole box: every input from 0 to 1.
@@ -13,8 +13,7 @@ impl Cell {
     {
         Cell {
             shape: Shape {
-                depths: [0; 3],
-                places: [0; 3],
+                parts: [Part { depth: 0, place: 0 }; 3],
             },
         }
     }
@@ -23,11 +22,9 @@ impl Cell {
     pub fn new(shape: Shape) -> Option<Cell>
         ensures value { MatchOption result (Valid shape → ⊥) (λ c. c.shape ≡ shape) }
     {
-        for v in 0..3 {
-            let depth = shape.depths[v];
-            if depth > DEEPEST || shape.places[v] >> depth != 0 {
-                return None;
-            }
+        let outside = |part: &Part| part.depth > DEEPEST || part.place >> part.depth != 0;
+        if shape.parts.iter().any(outside) {
+            return None;
         }
         Some(Cell { shape })
     }
@@ -39,13 +36,14 @@ impl Cell {
         requires shallow { depth self.now.shape v < 10 }
         ensures value { result.shape ≡ half self.now.shape v side }
     {
-        let mut depths = self.shape.depths;
-        let mut places = self.shape.places;
-        depths[v] += 1;
-        places[v] = 2 * places[v] + side;
-        Cell {
-            shape: Shape { depths, places },
-        }
+        // The side is a number, since it is added to the place.
+        let mut shape = self.shape;
+        let Part { depth, place } = shape.parts[v];
+        shape.parts[v] = Part {
+            depth: depth + 1,
+            place: 2 * place + side,
+        };
+        Cell { shape }
     }
 
     /// The lower and the upper half along an input, counted from 1; none where there is no such input or
@@ -54,11 +52,8 @@ impl Cell {
         ensures value { MatchOption result (Halves self.now.shape input → ⊥) (λ h. (h.0.shape ≡ half self.now.shape (input - 1) 0) × (h.1.shape ≡ half self.now.shape (input - 1) 1)) }
         ensures holds { IfSome result (λ h. (p : Point) → In p self.now.shape → In p h.0.shape ⊎ In p h.1.shape) }
     {
-        if input < 1 || input > 3 {
-            return None;
-        }
-        let v = input as usize - 1;
-        if self.shape.depths[v] >= DEEPEST {
+        let v = usize::from(input).checked_sub(1)?;
+        if self.shape.parts.get(v)?.depth >= DEEPEST {
             return None;
         }
         Some((self.half(v, 0), self.half(v, 1)))

@@ -1,5 +1,6 @@
 // Why a record is refused, and the number of each refusal.
 ghost use Rattle.std.specs.Prelude.{◌≡◌};
+ghost use Rattle.mapping.specs.Faults.{record_number, write_number};
 ghost use Rattle.mapping.specs.declared.fault.RecordFault.TheVariants.{Short};
 
 use crate::bits::BitFault;
@@ -7,27 +8,45 @@ use crate::bits::BitFault;
 /// Why a record is not accepted. Of several faults the one that stands first here is given.
 #[derive(Clone, Copy, PartialEq, Eq, Debug)]
 pub enum RecordFault {
-    /// 1: fewer than 3 bytes.
-    Short,
-    /// 2: the format is not 1.
-    Format,
-    /// 3: there are no inputs.
-    NoInput,
-    /// 4: an absent input has a degree other than 0.
-    AbsentDegree,
-    /// 5: one of the two bits that must be zero is set.
-    ZeroBits,
-    /// 6: more than 64 coefficients.
-    TooMany,
-    /// 7: the length is not that of the header and the coefficients.
-    Length,
+    /// Fewer than 3 bytes.
+    Short = 1,
+    /// The format is not 1.
+    Format = 2,
+    /// There are no inputs.
+    NoInput = 3,
+    /// An absent input has a degree other than 0.
+    AbsentDegree = 4,
+    /// One of the two bits that must be zero is set.
+    ZeroBits = 5,
+    /// More than 64 coefficients.
+    TooMany = 6,
+    /// The length is not that of the header and the coefficients.
+    Length = 7,
+}
+
+impl RecordFault {
+    /// The number of the refusal.
+    pub fn number(self) -> u8
+        ensures value { result ≡ record_number self }
+    {
+        self as u8
+    }
 }
 
 /// Why a record is not written.
 #[derive(Clone, Copy, PartialEq, Eq, Debug)]
 pub enum WriteFault {
-    /// 11: the buffer is shorter than the record.
-    SmallBuffer,
+    /// The buffer is shorter than the record.
+    SmallBuffer = 11,
+}
+
+impl WriteFault {
+    /// The number of the refusal.
+    pub fn number(self) -> u8
+        ensures value { result ≡ write_number self }
+    {
+        self as u8
+    }
 }
 
 /// Bits run out of a record only where it is shorter than its header.

@@ -1,14 +1,13 @@
 // A record's header, read field by field and checked.
-ghost use Rattle.std.specs.Prelude.{◌≡◌, ℕ, ◌*◌, ◌<◌, ◌≤◌, ◌++◌, length, Ok, Err};
-ghost use Rattle.mapping.specs.Unread.{unread};
+ghost use Rattle.std.specs.Prelude.{◌≡◌, ◌<◌, ◌++◌, length, Ok, Err};
 ghost use Rattle.mapping.specs.Listed.{first_listed, outcome};
 ghost use Rattle.mapping.specs.Headers.{header_bits, FitsHeader, header_faults};
 
-use crate::bits::BitFault;
+use crate::bits::{BitFault, BitReader};
 use crate::fault::RecordFault;
 use crate::header::Header;
+use crate::kind::Kind;
 use crate::mapping::MOST_TERMS;
-use crate::reader::BitReader;
 use crate::terms::count_terms;
 
 /// The format of a record.
@@ -22,20 +21,20 @@ pub(crate) const COEFFICIENT: usize = 4;
 impl Header {
     /// The next 24 bits as the fields of a header.
     pub(crate) fn read(bits: &mut BitReader) -> Result<Header, BitFault>
-        ensures value { elim result [ Ok h ↦ FitsHeader h × (unread bits.old ≡ header_bits h ++ unread bits.new) | Err f ↦ length (unread bits.old) < 24 ] }
+        ensures value { elim result [ Ok h ↦ FitsHeader h × (bits.old ≡ header_bits h ++ bits.new) | Err f ↦ length bits.old < 24 ] }
     {
-        let format = bits.take(4)? as u8;
-        let inputs = bits.take(2)? as u8;
-        let first = bits.take(3)? as u8;
-        let second = bits.take(3)? as u8;
-        let third = bits.take(3)? as u8;
-        let kind = bits.take(3)? as u8;
-        let shift = bits.take(4)? as u8;
-        let zeros = bits.take(2)? as u8;
+        let format = bits.take_byte(4)?;
+        let inputs = bits.take_byte(2)?;
+        let degrees = [bits.take_byte(3)?, bits.take_byte(3)?, bits.take_byte(3)?];
+        let Ok(kind) = Kind::try_from(bits.take_byte(3)?) else {
+            unreachable()
+        };
+        let shift = bits.take_byte(4)?;
+        let zeros = bits.take_byte(2)?;
         Ok(Header {
             format,
             inputs,
-            degrees: [first, second, third],
+            degrees,
             kind,
             shift,
             zeros,

@@ -20,3 +20,7 @@ pub enum Kind {
     /// −8,192 to 8,191 counts.
     Signed14,
 }
+
+/// A number that stands for no kind: 8 and more.
+#[derive(Clone, Copy, PartialEq, Eq, Debug)]
+pub struct UnknownKind(pub u8);

@@ -1,5 +1,5 @@
 // The mapping: a polynomial with whole-number coefficients, and the register that takes its value.
-ghost use Rattle.std.specs.Prelude.{◌≡◌, ℕ, ◌+◌, ◌*◌, ◌^◌, ◌<◌, ◌≤◌, length, pos, slice_index, slice_index_or};
+ghost use Rattle.std.specs.Prelude.{◌≡◌, ℕ, ◌^◌, ◌<◌, ◌≤◌, length, pos, slice_index, slice_index_or};
 ghost use Rattle.std.specs.Int.Signed.{mag};
 ghost use Rattle.mapping.specs.Terms.{terms};
 
@@ -9,6 +9,7 @@ use crate::kind::Kind;
 pub const MOST_TERMS: usize = 64;
 
 /// A mapping of one to three inputs.
+// Numbers beside fixed arrays: there is no heap, and the invariant says what stands in the places that are not used.
 #[derive(Clone, Copy, PartialEq, Eq, Debug)]
 pub struct Mapping {
     /// How many inputs there are, 1 to 3.
@@ -19,7 +20,7 @@ pub struct Mapping {
     /// Counts are worth 2^shift steps; 0 to 15.
     pub shift: u8,
     /// In steps.
-    pub coefficients: [i32; 64],
+    pub coefficients: [i32; MOST_TERMS],
     ghost some: { 1 ≤ inputs },
     ghost few: { inputs ≤ 3 },
     ghost three: { length degrees ≡ 3 },

@@ -1,29 +1,31 @@
-// The numbers of kinds and refusals.
-ghost use Rattle.std.specs.Prelude.{◌≡◌, ◌≤◌, MatchOption};
-ghost use Rattle.mapping.specs.Kinds.{kind_number, count_low, count_high};
-ghost use Rattle.mapping.specs.Faults.{record_number, write_number};
+// The numbers of kinds, and their counts.
+ghost use Rattle.std.specs.Prelude.{◌≡◌};
+ghost use Rattle.mapping.specs.Kinds.{kind_number, Numbered, count_low, count_high};
 
-use crate::fault::{RecordFault, WriteFault};
-use crate::kind::Kind;
+use crate::kind::{Kind, UnknownKind};
 
-impl Kind {
-    /// The kind that has this number in a record; none from 8 on.
-    pub fn from_number(number: u8) -> Option<Kind>
-        ensures value { MatchOption result (8 ≤ number) (λ k. kind_number k ≡ number) }
-    {
+/// The kind that has this number in a record; none from 8 on.
+impl TryFrom<u8> for Kind {
+    type Error = UnknownKind;
+
+    ghost try_from_gives = { Numbered };
+
+    fn try_from(number: u8) -> Result<Kind, UnknownKind> {
         match number {
-            0 => Some(Kind::Unsigned8),
-            1 => Some(Kind::Signed8),
-            2 => Some(Kind::Unsigned16),
-            3 => Some(Kind::Signed16),
-            4 => Some(Kind::Unsigned12),
-            5 => Some(Kind::Signed12),
-            6 => Some(Kind::Unsigned14),
-            7 => Some(Kind::Signed14),
-            _ => None,
+            0 => Ok(Kind::Unsigned8),
+            1 => Ok(Kind::Signed8),
+            2 => Ok(Kind::Unsigned16),
+            3 => Ok(Kind::Signed16),
+            4 => Ok(Kind::Unsigned12),
+            5 => Ok(Kind::Signed12),
+            6 => Ok(Kind::Unsigned14),
+            7 => Ok(Kind::Signed14),
+            _ => Err(UnknownKind(number)),
         }
     }
+}
 
+impl Kind {
     /// The number that stands for the kind in a record.
     pub fn number(self) -> u8
         ensures value { result ≡ kind_number self }
@@ -45,34 +47,6 @@ impl Kind {
             Kind::Signed12 => (-2_048, 2_047),
             Kind::Unsigned14 => (0, 16_383),
             Kind::Signed14 => (-8_192, 8_191),
-        }
-    }
-}
-
-impl RecordFault {
-    /// The number of the refusal.
-    pub fn number(self) -> u8
-        ensures value { result ≡ record_number self }
-    {
-        match self {
-            RecordFault::Short => 1,
-            RecordFault::Format => 2,
-            RecordFault::NoInput => 3,
-            RecordFault::AbsentDegree => 4,
-            RecordFault::ZeroBits => 5,
-            RecordFault::TooMany => 6,
-            RecordFault::Length => 7,
-        }
-    }
-}
-
-impl WriteFault {
-    /// The number of the refusal.
-    pub fn number(self) -> u8
-        ensures value { result ≡ write_number self }
-    {
-        match self {
-            WriteFault::SmallBuffer => 11,
         }
     }
 }

@@ -1,27 +1,23 @@
 // The record of a mapping: read into a place that the caller hands over, and written into a buffer.
-ghost use Rattle.std.specs.Prelude.{◌≡◌, ℕ, ◌+◌, ◌*◌, ◌^◌, ◌<◌, ◌≤◌, ◌++◌, length, take, pos, Some, None, Ok, Err, slice_index_or};
-ghost use Rattle.std.specs.Int.Signed.{mag};
-ghost use Rattle.mapping.specs.Unread.{unread};
+ghost use Rattle.std.specs.Prelude.{◌≡◌, ◌*◌, ◌<◌, ◌≤◌, ◌++◌, length, take, Ok, Err};
 ghost use Rattle.mapping.specs.Bits.{bits_of};
 ghost use Rattle.mapping.specs.Listed.{outcome};
-ghost use Rattle.mapping.specs.Records.{value_bits, record_bits, record_fault, Parsed, Filled};
+ghost use Rattle.mapping.specs.Records.{value_bits, Padded, record_bits, record_fault, Parsed, Filled};
 
-use crate::bits::BitFault;
+use crate::bits::{BitFault, BitReader};
 use crate::fault::RecordFault;
 use crate::header::Header;
-use crate::kind::Kind;
 use crate::mapping::{MOST_TERMS, Mapping};
-use crate::reader::BitReader;
 use crate::terms::count_terms;
 
 /// The next `count` coefficients, with zeros behind them.
-fn coefficients(bits: &mut BitReader, count: usize) -> Result<[i32; 64], BitFault>
+fn coefficients(bits: &mut BitReader, count: usize) -> Result<[i32; MOST_TERMS], BitFault>
     requires { count ≤ 64 }
-    ensures value { elim result [ Ok cs ↦ (unread bits.old ≡ value_bits (take count cs) ++ unread bits.new) × ((k : ℕ) → count ≤ k → slice_index_or cs k (pos 0) ≡ pos 0) × ((k : ℕ) → mag (slice_index_or cs k (pos 0)) < 2 ^ 31) × (length cs ≡ 64) | Err f ↦ length (unread bits.old) < 32 * count ] }
+    ensures value { elim result [ Ok cs ↦ Padded count cs × (bits.old ≡ value_bits (take count cs) ++ bits.new) | Err f ↦ length bits.old < 32 * count ] }
 {
     let mut values = [0; MOST_TERMS];
-    for k in 0..count {
-        values[k] = bits.take(32)?.cast_signed();
+    for value in &mut values[..count] {
+        *value = bits.take(32)?.cast_signed();
     }
     Ok(values)
 }
@@ -34,13 +30,10 @@ fn parse(bytes: &[u8]) -> Result<Mapping, RecordFault>
     let header = Header::read(&mut bits)?;
     header.check(bytes.len())?;
     let values = coefficients(&mut bits, count_terms(header.degrees))?;
-    let Some(kind) = Kind::from_number(header.kind) else {
-        unreachable()
-    };
     Ok(Mapping {
         inputs: header.inputs,
         degrees: header.degrees,
-        kind,
+        kind: header.kind,
         shift: header.shift,
         coefficients: values,
     })

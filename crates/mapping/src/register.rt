@@ -1,5 +1,5 @@
 // What a mapping says of itself: its register, and where its coefficients stand.
-ghost use Rattle.std.specs.Prelude.{◌≡◌, ℕ, slice_index};
+ghost use Rattle.std.specs.Prelude.{◌≡◌, slice_index};
 ghost use Rattle.mapping.specs.Terms.{terms, flat, exponents};
 ghost use Rattle.mapping.specs.Registers.{register_low, register_high, Blank};
 
@@ -41,8 +41,8 @@ impl Mapping {
         ensures back { flat self.now.degrees (slice_index result 0) (slice_index result 1) (slice_index result 2) ≡ index }
     {
         let [_, second, third] = self.degrees;
-        let row = third as usize + 1;
-        let rows = second as usize + 1;
+        let row = usize::from(third) + 1;
+        let rows = usize::from(second) + 1;
         [index / row / rows, index / row % rows, index % row]
     }
 
@@ -54,8 +54,8 @@ impl Mapping {
         let (low, high) = self.kind.counts();
         let count: i64 = 1 << self.shift;
         Register {
-            low: low as i64 * count,
-            high: high as i64 * count,
+            low: i64::from(low) * count,
+            high: i64::from(high) * count,
         }
     }
 }

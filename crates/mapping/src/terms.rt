@@ -7,5 +7,5 @@ pub(crate) fn count_terms(degrees: [u8; 3]) -> usize
     ensures value { result ≡ terms degrees }
 {
     let [first, second, third] = degrees;
-    (first as usize + 1) * ((second as usize + 1) * (third as usize + 1))
+    (usize::from(first) + 1) * ((usize::from(second) + 1) * (usize::from(third) + 1))
 }

@@ -1,34 +1,35 @@
-use Rattle.std.proofs.Common.{◌≡◌, ℕ, ◌+◌, ◌*◌, ◌<◌, ◌≤◌, ◌++◌, length, take, drop, ap, subst, zero-add, arith}
-use native.Mathlib.Nat.{sub-zero}
+use Rattle.std.proofs.Common.{◌≡◌, ℕ, ◌+◌, ◌*◌, ◌<◌, ◌≤◌, ◌++◌, length, take, pos, [], get_or, ap, ◌∙◌, rules, arith, length-append}
+use Rattle.std.specs.List.{flat_map}
+use Rattle.std.proofs.lemmas.List.{take_at, drop_at, length-take-le}
 use Rattle.std.proofs.ByRecursion.{All-from_get_or}
 use Rattle.mapping.specs.Bits.{bits_of, Bytes}
-use Rattle.mapping.specs.Records.{value_bits, record_bits, record_size}
-use Rattle.mapping.proofs.Writing.{record_written, rest_written, begins_with, written_fits}
+use Rattle.mapping.specs.Terms.{terms}
+use Rattle.mapping.specs.Records.{record_bits, record_size}
+use Rattle.mapping.proofs.Writing.{big_endian, record_written, begins_with}
 use Rattle.mapping.proofs.writer.write.Goals as goal
 
 pub returns : goal.returns
 returns c =
     let m = c.args.m.now in
-    let n = c.count_terms-terms.result in
-    let is = c.count_terms-terms.ensures.value in
-    let before = c.args.out.now in
-    let between = c.put.new.out in
-    let after = c.put_values.new.out in
-    let header = c.header_bytes.result in
-    let spelled = c.header_bytes.ensures.bits in
-    let three = c.header_bytes.ensures.len in
-    let size : 3 + 4 * n ≡ record_size m = ap (λ (k : ℕ). 3 + 4 * k) is in
-    let Bits : ℕ → Type 0 = λ k. bits_of (take (3 + 4 * length (take k m.coefficients)) after) ≡ bits_of (take 3 between) ++ value_bits (take k m.coefficients) in
-    let Rest : ℕ → Type 0 = λ k. drop (3 + 4 * length (take k m.coefficients)) after ≡ drop (3 + 4 * length (take k m.coefficients)) between in
-    let front : take (length header) between ≡ header = subst (λ (k : ℕ). take k between ≡ header) (zero-add (length header)) c.put.ensures.front in
-    let first : drop (length header) between ≡ drop (length header) before =
-    subst (λ (k : ℕ). drop k between ≡ drop k before) (zero-add (length header)) c.put.ensures.rest in
-    let bits : bits_of (take (3 + 4 * n) after) ≡ record_bits m =
-    record_written m n is before between after header spelled three front (subst Bits (sub-zero n) c.put_values.ensures.bits) in
-    let bytes : Bytes after = All-from_get_or (λ (b : ℕ). b < 256) after 0 (λ i h. (c.type_inv.out i).fits) in
-    let long : 3 + 4 * n ≤ length after = omega (arith, c.if-out-size.false, c.put.auto.out, c.put_values.auto.out) in
+    let size = 3 + 4 * c.count_terms-terms.result in
+    let is : size ≡ record_size m = ap (λ (n : ℕ). 3 + 4 * n) c.count_terms-terms.ensures.value in
+    let header = c.copy_from_slice.new.self in
+    let values = c.copy_from_slice-2.new.self in
+    let rest = c.split_at_mut-record.result.1.now in
+    let bytes = c.map-bytes.result in
+    let fits : c.count_terms-terms.result ≤ length bytes = omega (arith, c.map-bytes.ensures.items.long, c.count_terms-terms.ensures.value, m.small) in
+    let long : length (header ++ values) ≡ size =
+    omega (arith, length-append header values, ap length c.copy_from_slice.ensures.after, c.header_bytes.ensures.len, ap length c.copy_from_slice-2.ensures.after, c.as_flattened.ensures.len, length-take-le c.count_terms-terms.result bytes fits) in
+    let each : (k : ℕ) → k < 64 → get_or bytes k [] ≡ big_endian (get_or m.coefficients k (pos 0)) = λ k h. (c.map-bytes.ensures.items.at k (pos 0) [] h).2.met in
+    let flat : values ≡ flat_map (λ bs. bs) (take (terms m.degrees) bytes) =
+    c.copy_from_slice-2.ensures.after ∙ c.as_flattened.ensures.value ∙ ap (λ n. flat_map (λ bs. bs) (take n bytes)) c.count_terms-terms.ensures.value in
+    let bits : bits_of (header ++ values) ≡ record_bits m =
+    ap (λ bs. bits_of (header ++ bs)) flat ∙ record_written m header bytes (ap bits_of c.copy_from_slice.ensures.after ∙ c.header_bytes.ensures.bits) c.map-bytes.ensures.items.long each in
+    let front = ap bits_of (take_at (header ++ values) rest size long) ∙ bits in
     record {
-      value = written_fits m (length before) (3 + 4 * n) size c.if-out-size.false;
-      after = (bits, rest_written m n is before between after header spelled three first (subst Rest (sub-zero n) c.put_values.ensures.rest));
-      back = λ bs q e. begins_with m (3 + 4 * n) after bs size long bytes q bits e;
+      value = search rules;
+      after = (front, drop_at (header ++ values) rest size long ∙ c.split_at_mut-record.ensures.back);
+      back = λ bs q e.
+          let all : Bytes (header ++ values ++ rest) = All-from_get_or (λ b. b < 256) (header ++ values ++ rest) 0 (λ i h. (c.type_inv.out i).fits) in
+          begins_with m size _ bs is (omega (arith, length-append (header ++ values) rest, long)) all q front e;
     }

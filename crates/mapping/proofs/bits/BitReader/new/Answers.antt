@@ -1,6 +1,6 @@
 use Rattle.std.proofs.Common.{refl}
 use Rattle.mapping.specs.Bits.{spell}
-use Rattle.mapping.proofs.reader.BitReader.new.Goals as goal
+use Rattle.mapping.proofs.bits.BitReader.new.Goals as goal
 
 pub returns : goal.returns
 unfolding spell
