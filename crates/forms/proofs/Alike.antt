@@ -4,18 +4,11 @@ use Rattle.std.specs.Int.{int_min}
 use Rattle.forms.specs.Halving.{Row, kept, deep}
 use Rattle.forms.specs.Polynomial.{Table}
 use Rattle.forms.specs.Tables.{halved, least, least_of}
-use Rattle.forms.specs.HalvingLemmas.{kept_keep, deep_keep}
+use Rattle.forms.specs.WorkLemmas.{deep_reads}
 
 -- two tables with the same numbers up to n1, n2, n3
 abbrev pub Alike : ℕ → ℕ → ℕ → Table → Table → Type 0
 Alike n1 n2 n3 S T = (i j k : ℕ) → i ≤ n1 → j ≤ n2 → k ≤ n3 → S i j k ≡ T i j k
-
-pub kept_reads : (f : ℤ → ℤ → ℤ) (n b : ℕ) (r s : Row) → ((k : ℕ) → k ≤ n → r k ≡ s k) → (k : ℕ) → k ≤ n → kept f n b r k ≡ kept f n b s k
-kept_reads f n b r s h k l = kept_keep (λ x y. x ≡ y) f f (λ a b x y p q. ap₂ f p q) n b r s h k l
-
-pub deep_reads : (f : ℤ → ℤ → ℤ) (n d p : ℕ) (r s : Row) → ((k : ℕ) → k ≤ n → r k ≡ s k)
-    → (k : ℕ) → k ≤ n → deep (kept f n) d p r k ≡ deep (kept f n) d p s k
-deep_reads f n d p r s h k l = deep_keep (λ d x y. x ≡ y) (kept f n) (kept f n) n (λ d b r s q i j. kept_reads f n b r s q i j) r s h d p k l
 
 pub halved_reads : (f : ℤ → ℤ → ℤ) (n1 n2 n3 d1 m1 d2 m2 d3 m3 : ℕ) (S T : Table) → Alike n1 n2 n3 S T
     → Alike n1 n2 n3 (halved f n1 n2 n3 d1 m1 d2 m2 d3 m3 S) (halved f n1 n2 n3 d1 m1 d2 m2 d3 m3 T)

@@ -45,7 +45,7 @@ sum_between (suc n) f B h =
 -- ---- the slack
 
 -- a quotient rounded up of a number that is not negative
-quot_up_size : (z m : ℕ) → Between (pos 0) (pos z) (quot_up (pos z) m)
+pub quot_up_size : (z m : ℕ) → Between (pos 0) (pos z) (quot_up (pos z) m)
 unfolding quot_up quot_down
 quot_up_size zero m = rw (zero-div m) (record { from = pos_le (omega arith); to = pos_le (omega arith) })
 quot_up_size (suc z) m = record { from = pos_le (omega arith); to = pos_le (omega (arith, div-le_self z m)) }

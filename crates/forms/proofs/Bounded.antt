@@ -1,5 +1,5 @@
 -- The sizes of the numbers in arrays. Assumes nothing.
-use Rattle.std.proofs.Common.{◌≡◌, ℕ, ◌<◌, ◌≤◌, List, length, set, ℤ, pos, negsuc, neg_ℤ, sym, subst, ⊎_elim, div-le_self, arith, w64, SFits, to_z, of_z}
+use Rattle.std.proofs.Common.{◌≡◌, ℕ, ◌<◌, List, length, set, ℤ, pos, negsuc, neg_ℤ, sym, subst, ⊎_elim, div-le_self, arith, w64, SFits, to_z, of_z}
 use borrow.Author.Differences.{fits_in}
 use Rattle.std.proofs.lemmas.List.{get_or-set_same, get_or-set_other}
 use Rattle.std.proofs.lemmas.Int.{to_z-of_z}
@@ -25,10 +25,7 @@ summable_fits z w = omega (arith, lin, fits_in, w.0, w.1)
 pub word : (z : ℤ) → Within summable z → to_z w64 (of_z w64 z) ≡ z
 word z w = to_z-of_z w64 z (summable_fits z w)
 
--- a larger bound, the opposite number, and a quotient
-pub within_more : (a b : ℕ) (z : ℤ) → a ≤ b → Within a z → Within b z
-within_more a b z l w = (omega (arith, lin, w.0), omega (arith, lin, w.1))
-
+-- the opposite number, and a quotient
 pub within_neg : (b : ℕ) (z : ℤ) → Within b z → Within b (neg_ℤ z)
 within_neg b z w = (omega (arith, lin, w.1), omega (arith, lin, w.0))
 

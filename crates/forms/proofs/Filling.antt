@@ -6,10 +6,7 @@ use Rattle.forms.specs.Arrays.{numbers, Holds, Turned}
 use Rattle.forms.specs.Halving.{Row}
 use Rattle.forms.specs.Tables.{along1, along2, along3}
 use Rattle.forms.specs.Extra.{nats}
-
--- g reads only the numbers of a row up to n
-abbrev pub Reads : ℕ → (Row → Row) → Type 0
-Reads n g = (r s : Row) → ((k : ℕ) → k ≤ n → r k ≡ s k) → (k : ℕ) → k ≤ n → g r k ≡ g s k
+use Rattle.forms.specs.Works.{Reads}
 
 -- one more place
 pub place_more : (g : Row) (xs : List ℤ) (k : ℕ) (z : ℤ) → k < length xs → z ≡ g k → ((j : ℕ) → j < k → numbers xs j ≡ g j)
@@ -18,15 +15,6 @@ place_more g xs k z len e h j l =
     ⊎_elim
     (λ (s : j ≡ k). ap (numbers (set xs k z)) s ∙ get_or-set_same xs k z (pos 0) len ∙ e ∙ ap g (sym s))
     (λ (s : j ≡ k → ⊥). get_or-set_other xs k j z (pos 0) s ∙ h j (omega arith))
-    (cases_eq j k)
-
--- one more place, counted from s on
-pub shifted_more : (g : Row) (xs : List ℤ) (s k : ℕ) (z : ℤ) → s + k < length xs → z ≡ g k → ((j : ℕ) → j < k → numbers xs (s + j) ≡ g j)
-    → (j : ℕ) → j < k + 1 → numbers (set xs (s + k) z) (s + j) ≡ g j
-shifted_more g xs s k z len e h j l =
-    ⊎_elim
-    (λ (q : j ≡ k). ap (λ i. numbers (set xs (s + k) z) (s + i)) q ∙ get_or-set_same xs (s + k) z (pos 0) len ∙ e ∙ ap g (sym q))
-    (λ (q : j ≡ k → ⊥). get_or-set_other xs (s + k) (s + j) z (pos 0) (λ (p : s + j ≡ s + k). q (omega arith)) ∙ h j (omega arith))
     (cases_eq j k)
 
 -- a new number at a place, and those behind it as they were

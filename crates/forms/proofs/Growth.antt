@@ -1,19 +1,9 @@
 -- The bounds on the numerators, input by input. Assumes nothing.
-use Rattle.std.proofs.Common.{◌≡◌, ℕ, suc, ◌+◌, ◌*◌, ◌^◌, ◌<◌, ◌≤◌, mul-le-mul_right, mul-le-mul, add-one, arith}
+use Rattle.std.proofs.Common.{◌≡◌, ℕ, suc, ◌+◌, ◌*◌, ◌^◌, ◌<◌, ◌≤◌, mul-le-mul, add-one, arith}
 use Rattle.forms.specs.Choose.{factorial}
 use Rattle.forms.specs.Works.{summable, grown}
-use Rattle.forms.specs.ChooseLemmas.{factorial_pos}
 use Rattle.forms.proofs.Computed.{factorials_small}
 use Rattle.forms.specs.Extra.{nats}
-
--- no bound shrinks
-pub grows : (n b : ℕ) → b ≤ grown n b
-grows n b =
-    let same : b ≤ b = omega arith in
-    let inner : b * 1 ≤ b * factorial n = mul-le-mul same (factorial_pos n) in
-    let one : 1 ≤ suc n = omega arith in
-    let outer : 1 * (b * factorial n) ≤ suc n * (b * factorial n) = mul-le-mul_right (b * factorial n) one in
-    omega (arith, inner, outer)
 
 regroup : (A B C x y z b : ℕ) → C * (B * (A * (b * x) * y) * z) ≡ A * (B * C) * (x * (y * z)) * b
 regroup A B C x y z b = simp nats

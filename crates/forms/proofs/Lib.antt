@@ -12,11 +12,11 @@ pub mod Losses
 pub mod Upto
 pub mod Working
 pub mod Inputs
+pub mod Made
 pub mod Sizes
 pub mod Agreeing
 pub mod Sizing
 pub mod RowSums
-pub mod Grown
 pub mod Numbers
 pub mod Outermost
 pub mod Growth

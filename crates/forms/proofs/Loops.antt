@@ -1,5 +1,4 @@
 -- The halvings as loops run them: digit after digit, round after round in place.
---     digit d p t        the digit t of the place p of depth d, the most significant being digit 0
 --     partly f n t r     the row r of degree n after t rounds in place: round t writes the places 0, 1, … n - t - 1, each from itself
 --                        and its right neighbour
 -- Assumes nothing.
@@ -9,31 +8,27 @@ use Rattle.std.proofs.lemmas.List.{get_or-set_same, get_or-set_other}
 use Rattle.std.proofs.lemmas.Bool.{cases_eq, cases_lt}
 use Rattle.forms.specs.Arrays.{numbers, Holds}
 use Rattle.forms.specs.Halving.{Row, rounds, kept, deep}
-use Rattle.forms.proofs.Alike.{kept_reads}
+use Rattle.forms.specs.WorkLemmas.{kept_reads}
 
 -- ---- digits
 
-abbrev pub digit : ℕ → ℕ → ℕ → ℕ
-digit d p t = (p / 2 ^ (d - suc t)) % 2
-
--- one more digit
-pub deep_next : (g : ℕ → Row → Row) (d p t : ℕ) (r : Row) → t < d → deep g (suc t) (p / 2 ^ (d - suc t)) r ≡ g (digit d p t) (deep g t (p / 2 ^ (d - t)) r)
+-- one more digit, behind which s are left
+pub deep_next : (g : ℕ → Row → Row) (d p s : ℕ) (r : Row) → s < d → deep g (d - s) (p / 2 ^ s) r ≡ g (p / 2 ^ s % 2) (deep g (d - suc s) (p / 2 ^ suc s) r)
 unfolding deep
-deep_next g d p t r h =
-    let e : d - t ≡ suc (d - suc t) = omega arith in
-    let f : p / 2 ^ (d - suc t) / 2 ≡ p / 2 ^ (d - t) =
-    div-div-eq-div-mul p (2 ^ (d - suc t)) 2 ∙ ap (λ x. p / x) (sym (pow-suc 2 (d - suc t)) ∙ ap (λ x. 2 ^ x) (sym e)) in
-    ap (λ q. g (digit d p t) (deep g t q r)) f
+deep_next g d p s r h =
+    let e : d - s ≡ suc (d - suc s) = omega arith in
+    let f : p / 2 ^ s / 2 ≡ p / 2 ^ suc s = div-div-eq-div-mul p (2 ^ s) 2 ∙ ap (λ x. p / x) (sym (pow-suc 2 s)) in
+    ap (λ n. deep g n (p / 2 ^ s) r) e ∙ ap (λ q. g (p / 2 ^ s % 2) (deep g (d - suc s) q r)) f
 
 -- no digit yet, and all digits
-pub deep_none : (g : ℕ → Row → Row) (d p : ℕ) (r : Row) → deep g 0 (p / 2 ^ (d - 0)) r ≡ r
+pub deep_none : (g : ℕ → Row → Row) (d p : ℕ) (r : Row) → deep g (d - d) (p / 2 ^ d) r ≡ r
 unfolding deep
-deep_none g d p r = refl
+deep_none g d p r = let e : d - d ≡ 0 = omega arith in ap (λ n. deep g n (p / 2 ^ d) r) e
 
-pub deep_all : (g : ℕ → Row → Row) (d p : ℕ) (r : Row) → deep g d (p / 2 ^ (d - d)) r ≡ deep g d p r
+pub deep_all : (g : ℕ → Row → Row) (d p : ℕ) (r : Row) → deep g (d - 0) (p / 2 ^ 0) r ≡ deep g d p r
 deep_all g d p r =
-    let e : d - d ≡ 0 = omega arith in
-    ap (λ x. deep g d (p / 2 ^ x) r) e ∙ ap (λ x. deep g d x r) (div-one p)
+    let e : d - 0 ≡ d = omega arith in
+    ap (λ n. deep g n (p / 2 ^ 0) r) e ∙ ap (λ q. deep g d q r) (div-one p)
 
 -- ---- rounds in place
 
@@ -107,14 +102,11 @@ module _ (f : ℤ → ℤ → ℤ) (n : ℕ) (r : Row) where
       (λ (s : k ≡ t + 1 → ⊥). get_or-set_other xs (t + 1) k z (pos 0) s ∙ h k (omega arith))
       (cases_eq k (t + 1))
 
-  -- one more digit
-  pub digit_more : (d p t b : ℕ) (xs ys : List ℤ) → t < d → b ≡ digit d p t → Holds n xs (deep (kept f n) t (p / 2 ^ (d - t)) r)
-      → Holds n ys (kept f n b (numbers xs)) → Holds n ys (deep (kept f n) (t + 1) (p / 2 ^ (d - (t + 1))) r)
-  digit_more d p t b xs ys t-lt e h g k l =
-      rw (add-one t)
-      (g k l ∙ kept_reads f n b (numbers xs) (deep (kept f n) t (p / 2 ^ (d - t)) r) h k l
-      ∙ ap (λ c. kept f n c (deep (kept f n) t (p / 2 ^ (d - t)) r) k) e
-      ∙ ap (λ s. s k) (sym (deep_next (kept f n) d p t r t-lt)))
-
-  pub digits_end : (d p t : ℕ) (xs : List ℤ) → t ≡ d → Holds n xs (deep (kept f n) t (p / 2 ^ (d - t)) r) → Holds n xs (deep (kept f n) d p r)
-  digits_end d p t xs e h k l = h k l ∙ ap (λ s. deep (kept f n) s (p / 2 ^ (d - s)) r k) e ∙ ap (λ s. s k) (deep_all (kept f n) d p r)
+  -- one more digit of those that are left
+  pub digit_more : (d p t b : ℕ) (xs ys : List ℤ) → 0 < t → t ≤ d → b ≡ p / 2 ^ (t - 1) % 2 → Holds n xs (deep (kept f n) (d - t) (p / 2 ^ t) r)
+      → Holds n ys (kept f n b (numbers xs)) → Holds n ys (deep (kept f n) (d - (t - 1)) (p / 2 ^ (t - 1)) r)
+  digit_more d p t b xs ys some most e h g k l =
+      let up : suc (t - 1) ≡ t = omega arith in
+      g k l ∙ kept_reads f n b (numbers xs) (deep (kept f n) (d - t) (p / 2 ^ t) r) h k l
+      ∙ ap₂ (λ c u. kept f n c (deep (kept f n) (d - u) (p / 2 ^ u) r) k) e (sym up)
+      ∙ ap (λ s. s k) (sym (deep_next (kept f n) d p (t - 1) r (omega arith)))

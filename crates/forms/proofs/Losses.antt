@@ -2,7 +2,7 @@
 use Rattle.std.proofs.Common.{◌≡◌, ℕ, zero, suc, ◌*◌, ◌%◌, ◌^◌, ◌<◌, ◌≤◌, ℤ, pos, ◌+ℤ◌, ◌≤ℤ◌, sym, refl, ap, ◌∙◌, ap₂, mod-eq_of_lt, mul-le-mul, mul-pos, arith, pow_mono, w64, SFits, to_z, of_z}
 use native.Mathlib.Nat.{one-le-pow}
 use borrow.Author.Differences.{fits_in}
-use Rattle.std.proofs.lemmas.Int.{to_z-of_z, to_z_pos}
+use Rattle.std.proofs.lemmas.Int.{to_z-of_z}
 use Rattle.arith.specs.Rounding.{quot_up}
 use Rattle.arith.proofs.Ring.{lin}
 use Rattle.mapping.specs.Cells.{depth}
@@ -60,13 +60,10 @@ unfolding loss
 loss_some zero d S h = absurd (omega arith)
 loss_some (suc n) d S h = refl
 
-pub loss_word : (n d D s : ℕ) (x y : ℤ) → n * d ≤ 70 → D ≡ 2 * n * 4 ^ d → 0 < D → s ≤ 2 ^ 43 → SFits w64 x → SFits w64 y
-    → x ≡ quot_up (to_z w64 (n * d)) 2 → y ≡ quot_up (to_z w64 s) D → to_z w64 (of_z w64 x) +ℤ to_z w64 (of_z w64 y) ≡ loss n d (pos s)
-loss_word n d D s x y few e D0 small fx fy half bent =
-    let fits : n * d < 2 ^ 63 = omega arith in
-    ap₂ ◌+ℤ◌
-    (to_z-of_z w64 x fx ∙ half ∙ ap (λ z. quot_up z 2) (to_z_pos w64 (n * d) fits))
-    (to_z-of_z w64 y fy ∙ bent ∙ ap₂ quot_up (to_z_pos w64 s (omega arith)) e)
+pub loss_word : (n d D s : ℕ) (x y : ℤ) → D ≡ 2 * n * 4 ^ d → 0 < D → SFits w64 x → SFits w64 y
+    → x ≡ quot_up (pos (n * d)) 2 → y ≡ quot_up (pos s) D → to_z w64 (of_z w64 x) +ℤ to_z w64 (of_z w64 y) ≡ loss n d (pos s)
+loss_word n d D s x y e D0 fx fy half bent =
+    ap₂ ◌+ℤ◌ (to_z-of_z w64 x fx ∙ half) (to_z-of_z w64 y fy ∙ bent ∙ ap (quot_up (pos s)) e)
     ∙ loss_some n d (pos s) (omega arith)
 
 -- ---- the sum of three

@@ -51,6 +51,13 @@ items_all n k x xs some fit e end =
     at zero l = e
     at (suc i) l = get_or-take (n - 1) (drop 1 xs) i (pos 0) l ∙ get_or-drop 1 xs i (pos 0) ∙ ap (numbers xs) (one-add i)
 
+-- the first n numbers of an array
+pub least_taken : (n : ℕ) (xs : List ℤ) → 0 < n → n ≤ length xs → least (length (take n xs) - 1) (numbers (take n xs)) ≡ least (n - 1) (numbers xs)
+least_taken n xs some fit =
+    let long : length (take n xs) ≡ n = length-take n xs ∙ omega arith in
+    ap (λ i. least (i - 1) (numbers (take n xs))) long
+    ∙ least_reads (n - 1) (numbers (take n xs)) (numbers xs) (λ i l. get_or-take n xs i (pos 0) (omega arith))
+
 -- the least number keeps the bound of all
 pub least_within : (b n : ℕ) (xs : List ℤ) → EachWithin b xs → Within b (least n (numbers xs))
 least_within b n xs all = let s = least_at n (numbers xs) in subst (Within b) (sym s.2) (all s.0)

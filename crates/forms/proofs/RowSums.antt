@@ -3,11 +3,9 @@ use Rattle.std.proofs.Common.{◌≡◌, ℕ, suc, ◌*◌, ◌^◌, ◌<◌, �
 use borrow.Author.Differences.{fits_in, abs_is, mag_is}
 use Rattle.arith.specs.Sums.{sum}
 use Rattle.arith.proofs.Ring.{lin}
-use Rattle.arith.proofs.Sums.{sum_ext}
 use Rattle.mapping.specs.declared.mapping.Mapping.{Mapping}
 use Rattle.forms.specs.Arrays.{numbers}
 use Rattle.forms.specs.Choose.{factorial, weight}
-use Rattle.forms.specs.Halving.{Row}
 use Rattle.forms.specs.Worked.{Within}
 use Rattle.forms.specs.Works.{weighed_row, EachWithin, grown, Weighable}
 use Rattle.forms.proofs.Between.{Between, term_between, sum_between}
@@ -50,12 +48,6 @@ module _ (n j : ℕ) (xs : List ℤ) (place : j ≤ n) where
 
   pub numerator_size : (b : ℕ) → EachWithin b xs → Within (grown n b) (sum (suc n) weigh_term)
   numerator_size b all = part b all (suc n) (omega arith)
-
--- weighing reads only the numbers up to n
-pub weighed_reads : (n : ℕ) (r s : Row) → ((k : ℕ) → k ≤ n → r k ≡ s k) → (k : ℕ) → k ≤ n → weighed_row n r k ≡ weighed_row n s k
-unfolding weighed_row
-weighed_reads n r s h k l =
-    sum_ext (suc n) (λ i. r i *ℤ pos (weight n k i)) (λ i. s i *ℤ pos (weight n k i)) (λ i b. λ t. h i (omega arith) t *ℤ pos (weight n k i))
 
 -- the coefficients of a mapping, in an array
 pub coefficients_within : (m : Mapping) (xs : List ℤ) → ((k : ℕ) → numbers xs k ≡ numbers m.coefficients k) → EachWithin (2 ^ 31) xs

@@ -1,27 +1,22 @@
--- The shares of the inputs in the slack of the nested form, and the slack, within 64 bits. Assumes nothing.
-use Rattle.std.proofs.Common.{◌≡◌, ℕ, ◌-◌, ◌*◌, ◌^◌, ◌≤◌, ℤ, pos, ◌+ℤ◌, ◌-ℤ◌, ◌*ℤ◌, ◌≤ℤ◌, ap, ◌∙◌, ap₂, mul-le-mul_right, arith, lit<, pow_pos, w64, SFits, to_z, of_z}
-use lib.IntN.{*ℤ-zero}
+-- A share of a slack, and the slack of the nested form, within 64 bits. Assumes nothing.
+use Rattle.std.proofs.Common.{◌≡◌, ℕ, ◌-◌, ◌*◌, ◌^◌, ◌≤◌, ℤ, pos, ◌+ℤ◌, ◌-ℤ◌, ◌*ℤ◌, ◌≤ℤ◌, ap, ◌∙◌, ap₂, arith, lit<, w64, SFits, to_z, of_z}
 use Rattle.std.proofs.lemmas.Int.{to_z-of_z, to_z_pos}
 use Rattle.arith.specs.Rounding.{quot_up}
 use Rattle.arith.proofs.Ring.{lin}
-use Rattle.arith.proofs.Order.{mul_le_cancel}
-use Rattle.arith.proofs.Quotients.{up_above, up_least}
+use Rattle.forms.proofs.Between.{quot_up_size}
 use Rattle.forms.proofs.Working.{fits}
 
--- a moment n over a power of two, rounded up, as the code computes it
-module _ (n d : ℕ) (r : ℤ) (small : n ≤ 2 ^ 43) (is : r ≡ quot_up (to_z w64 n) (2 ^ d)) where
-  pub share_is : r ≡ quot_up (pos n) (2 ^ d)
-  share_is = is ∙ ap (λ z. quot_up z (2 ^ d)) (to_z_pos w64 n (omega arith))
+-- a sum n over a divisor m, rounded up, as the code computes it
+module _ (n m : ℕ) (r : ℤ) (small : n ≤ 2 ^ 43) (is : r ≡ quot_up (to_z w64 n) m) where
+  pub share_is : r ≡ quot_up (pos n) m
+  share_is = is ∙ ap (λ z. quot_up z m) (to_z_pos w64 n (omega arith))
 
   pub share_small : (pos 0 ≤ℤ r) × (r ≤ℤ pos (2 ^ 43))
   share_small =
-      let q = quot_up (pos n) (2 ^ d) in
-      let zero : pos (2 ^ d) *ℤ pos 0 ≡ pos 0 = *ℤ-zero (pos (2 ^ d)) in
-      let above : pos n ≤ℤ (pos (2 ^ d) *ℤ q) = up_above (2 ^ d) (pow_pos d) (pos n) in
-      let from : pos 0 ≤ℤ q = mul_le_cancel (2 ^ d) (pow_pos d) (omega (arith, lin)) in
-      let wide : 2 ^ 43 ≤ 2 ^ d * 2 ^ 43 = omega (arith, mul-le-mul_right (2 ^ 43) (pow_pos d)) in
-      let to : q ≤ℤ pos (2 ^ 43) = up_least (2 ^ d) (pow_pos d) (pos n) (pos (2 ^ 43)) (omega (arith, lin)) in
-      rw share_is (omega (arith, lin))
+      let b = quot_up_size n m in
+      let lo : pos 0 ≤ℤ quot_up (pos n) m = b.from in
+      let hi : quot_up (pos n) m ≤ℤ pos n = b.to in
+      rw share_is (lo, omega (arith, lin))
 
 -- ---- the slack, as the code computes it
 read_sum : (x y : ℤ) → SFits w64 x → SFits w64 y → to_z w64 (of_z w64 x) +ℤ to_z w64 (of_z w64 y) ≡ x +ℤ y

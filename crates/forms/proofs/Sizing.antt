@@ -1,33 +1,49 @@
 -- The sizes of a mapping's coefficients, added up one input after the other. Assumes nothing.
-use Rattle.std.proofs.Common.{◌≡◌, ℕ, ◌+◌, ◌*◌, ◌/◌, ◌%◌, ◌^◌, ◌<◌, ◌≤◌, List, get_or, pos, nat_abs, sym, ap, ◌∙◌, ap₂, mul-le-mul_right, mul_assoc, mul-le-mul, zero-mul, arith, lit<}
+use Rattle.std.proofs.Common.{◌≡◌, ℕ, ◌+◌, ◌*◌, ◌/◌, ◌%◌, ◌^◌, ◌<◌, ◌≤◌, List, length, get_or, pos, nat_abs, sym, ap, ◌∙◌, ap₂, mul-le-mul_right, mul_assoc, mul-le-mul, zero-mul, arith, lit<}
 use lib.Signed.{nat_abs-le}
 use Rattle.mapping.specs.Terms.{terms}
 use Rattle.mapping.specs.Values.{degree}
 use Rattle.mapping.specs.declared.mapping.Mapping.{Mapping}
 use Rattle.forms.specs.Totals.{total, row_sum, row_weighed, weighed_sizes}
 use Rattle.forms.proofs.Added.{total_more, total_ext, total_zero, total_one, total_most, by_rows, over_rows}
-use Rattle.forms.proofs.Bends.{exponent_small}
 use Rattle.forms.proofs.Places.{exponent}
 use Rattle.forms.proofs.Upto.{Upto}
 use Rattle.forms.proofs.Working.{row_end, rows_fit}
 
-abbrev pub Light : List ℕ → Type 0
-Light ws = (i : ℕ) → i ≤ 7 → get_or ws i 0 ≤ 64
+-- ---- one number more in both sums of a row: n numbers are summed up
+module _ (ws row : List ℕ) (few : length row ≤ 8) (light : (i : ℕ) → get_or ws i 0 ≤ 64) (small : (k : ℕ) → k < length row → get_or row k 0 ≤ 2 ^ 37) where
+  abbrev item : ℕ → ℕ
+  item k = get_or ws k 0 * get_or row k 0
 
--- ---- sizes of sums
-module _ (ws xs : List ℕ) (start degree : ℕ) (few : degree ≤ 7) (light : Light ws) (small : (k : ℕ) → k ≤ degree → get_or xs (start + k) 0 ≤ 2 ^ 37) where
-  pub sum_most : (k : ℕ) → k ≤ degree + 1 → total k (λ k. get_or xs (start + k) 0) ≤ 8 * 2 ^ 37
-  sum_most k l =
-      let m = total_most k (2 ^ 37) (λ k. get_or xs (start + k) 0) (λ i h. small i (omega arith)) in
+  item_most : (k : ℕ) → k < length row → item k ≤ 64 * 2 ^ 37
+  item_most k l = mul-le-mul (light k) (small k l)
+
+  pub weighed_most : (n : ℕ) → n ≤ length row → total n item ≤ 8 * (64 * 2 ^ 37)
+  weighed_most n l =
+      let m = total_most n (64 * 2 ^ 37) item (λ i h. item_most i (omega arith)) in
       omega arith
 
-  pub item_most : (k : ℕ) → k ≤ degree → get_or ws k 0 * get_or xs (start + k) 0 ≤ 64 * 2 ^ 37
-  item_most k l = mul-le-mul (light k (omega arith)) (small k l)
+  module _ (n s r x w : ℕ) (inside : n < length row) (x-is : x ≡ get_or row n 0) (w-is : w ≡ get_or ws n 0)
+      (sum : s ≡ total n (λ k. get_or row k 0)) (weighed : r ≡ total n item) where
+    product : w * x ≡ item n
+    product = ap₂ ◌*◌ w-is x-is
 
-  pub weighed_most : (k : ℕ) → k ≤ degree + 1 → total k (λ k. get_or ws k 0 * get_or xs (start + k) 0) ≤ 8 * (64 * 2 ^ 37)
-  weighed_most k l =
-      let m = total_most k (64 * 2 ^ 37) (λ k. get_or ws k 0 * get_or xs (start + k) 0) (λ i h. item_most i (omega arith)) in
-      omega arith
+    pub sum_fits : s + x < 2 ^ 64
+    sum_fits =
+        let m = total_most n (2 ^ 37) (λ k. get_or row k 0) (λ i h. small i (omega arith)) in
+        omega (arith, small n inside)
+
+    pub product_fits : w * x < 2 ^ 64
+    product_fits = rw product (omega (arith, item_most n inside))
+
+    pub weighed_fits : r + w * x < 2 ^ 64
+    weighed_fits = rw product (omega (arith, item_most n inside, weighed_most n (omega arith)))
+
+    pub sum_more : s + x ≡ total (n + 1) (λ k. get_or row k 0)
+    sum_more = ap₂ ◌+◌ sum x-is ∙ sym (total_more n (λ k. get_or row k 0))
+
+    pub weighed_more : r + w * x ≡ total (n + 1) item
+    weighed_more = ap₂ ◌+◌ weighed product ∙ sym (total_more n item)
 
 -- ---- rows of one number, whose weight is 0
 module _ (ws xs : List ℕ) (n : ℕ) (flat : n ≡ 0) where
@@ -44,33 +60,39 @@ module _ (ws xs : List ℕ) (n : ℕ) (flat : n ≡ 0) where
       ∙ ap (λ z. z * get_or xs (t * (0 + 1) + 0) 0) none ∙ zero-mul (get_or xs (t * (0 + 1) + 0) 0)))
 
 -- ---- rows added up in place: t rows are done
-module _ (ws xs ys : List ℕ) (n rows t : ℕ) (few : n ≤ 7) (some : t < rows) (room : rows * (n + 1) ≤ 64) (light : Light ws)
-    (small : (k : ℕ) → k < rows * (n + 1) → get_or xs k 0 ≤ 2 ^ 37) (so_far : Upto 0 (λ j. row_sum n xs (j * (n + 1))) (λ j. get_or xs j 0) t ys) where
+module _ (ws xs ys row : List ℕ) (n rows t : ℕ) (few : n ≤ 7) (some : t < rows) (room : rows * (n + 1) ≤ 64) (light : (i : ℕ) → get_or ws i 0 ≤ 64)
+    (small : (k : ℕ) → k < rows * (n + 1) → get_or xs k 0 ≤ 2 ^ 37) (so_far : Upto 0 (λ j. row_sum n xs (j * (n + 1))) (λ j. get_or xs j 0) t ys)
+    (long : length row ≡ n + 1) (at : (k : ℕ) → k < n + 1 → get_or row k 0 ≡ get_or ys (t * (n + 1) + k) 0) where
   -- row t is as it was
-  unread : (k : ℕ) → get_or ys (t * (n + 1) + k) 0 ≡ get_or xs (t * (n + 1) + k) 0
-  unread k = so_far.1 (t * (n + 1) + k) (omega (arith, rows_fit t n (t * (n + 1)) (omega arith)))
+  unread : (k : ℕ) → k < n + 1 → get_or row k 0 ≡ get_or xs (t * (n + 1) + k) 0
+  unread k l = at k l ∙ so_far.1 (t * (n + 1) + k) (omega (arith, rows_fit t n (t * (n + 1)) (omega arith)))
 
-  pub row_small : (k : ℕ) → k ≤ n → get_or ys (t * (n + 1) + k) 0 ≤ 2 ^ 37
-  row_small k l = rw (unread k) (small (t * (n + 1) + k) (omega (arith, row_end t rows n some)))
+  pub row_small : (k : ℕ) → k < length row → get_or row k 0 ≤ 2 ^ 37
+  row_small k l =
+      let h : k < n + 1 = omega (arith, long) in
+      rw (unread k h) (small (t * (n + 1) + k) (omega (arith, row_end t rows n some)))
 
-  pub row_inside : t * (n + 1) + n < 64
-  row_inside = omega (arith, row_end t rows n some)
+  pub sum_same : total (length row) (λ k. get_or row k 0) ≡ row_sum n xs (t * (n + 1))
+  sum_same = ap (λ l. total l (λ k. get_or row k 0)) long ∙ total_ext (n + 1) (λ k. get_or row k 0) (λ k. get_or xs (t * (n + 1) + k) 0) unread
 
-  pub sum_same : row_sum n ys (t * (n + 1)) ≡ row_sum n xs (t * (n + 1))
-  sum_same = total_ext (n + 1) (λ k. get_or ys (t * (n + 1) + k) 0) (λ k. get_or xs (t * (n + 1) + k) 0) (λ k l. unread k)
-
-  weighed_same : row_weighed ws n ys (t * (n + 1)) ≡ row_weighed ws n xs (t * (n + 1))
+  weighed_same : total (length row) (λ k. get_or ws k 0 * get_or row k 0) ≡ row_weighed ws n xs (t * (n + 1))
   weighed_same =
-      total_ext (n + 1) (λ k. get_or ws k 0 * get_or ys (t * (n + 1) + k) 0) (λ k. get_or ws k 0 * get_or xs (t * (n + 1) + k) 0) (λ k l. ap (λ z. get_or ws k 0 * z) (unread k))
+      ap (λ l. total l (λ k. get_or ws k 0 * get_or row k 0)) long
+      ∙ total_ext (n + 1) (λ k. get_or ws k 0 * get_or row k 0) (λ k. get_or ws k 0 * get_or xs (t * (n + 1) + k) 0) (λ k l. ap (λ z. get_or ws k 0 * z) (unread k l))
 
-  module _ (all r : ℕ) (was : all ≡ total t (λ j. row_weighed ws n xs (j * (n + 1)))) (is : r ≡ row_weighed ws n ys (t * (n + 1))) where
+  module _ (all r : ℕ) (was : all ≡ total t (λ j. row_weighed ws n xs (j * (n + 1)))) (is : r ≡ total (length row) (λ k. get_or ws k 0 * get_or row k 0)) where
     pub all_more : all + r ≡ total (t + 1) (λ j. row_weighed ws n xs (j * (n + 1)))
     all_more = ap₂ ◌+◌ was (is ∙ weighed_same) ∙ sym (total_more t (λ j. row_weighed ws n xs (j * (n + 1))))
 
+    each_most : (j : ℕ) → j < t + 1 → row_weighed ws n xs (j * (n + 1)) ≤ 8 * (64 * 2 ^ 37)
+    each_most j l =
+        let m = total_most (n + 1) (64 * 2 ^ 37) (λ k. get_or ws k 0 * get_or xs (j * (n + 1) + k) 0)
+        (λ k h. mul-le-mul (light k) (small (j * (n + 1) + k) (omega (arith, row_end j rows n (omega arith))))) in
+        omega arith
+
     pub all_fits : all + r < 2 ^ 64
     all_fits =
-        let most = total_most (t + 1) (8 * (64 * 2 ^ 37)) (λ j. row_weighed ws n xs (j * (n + 1)))
-        (λ j l. weighed_most ws xs (j * (n + 1)) n few light (λ k h. small (j * (n + 1) + k) (omega (arith, row_end j rows n (omega arith)))) (n + 1) (omega arith)) in
+        let most = total_most (t + 1) (8 * (64 * 2 ^ 37)) (λ j. row_weighed ws n xs (j * (n + 1))) each_most in
         rw all_more (omega (arith, rows_fit rows n 64 room))
 
 -- ---- the three inputs in turn, over a mapping's sizes
@@ -148,9 +170,9 @@ module _ (ws : List ℕ) (m : Mapping) (xs : List ℕ) (sizes : (t : ℕ) → ge
           ∙ over_rows A B w y ∙ weighed_rows (λ t. t / B) ∙ whole (λ s. s / C / B)
 
 -- ---- the size of the whole sum
-pub weighed_sizes_most : (ws : List ℕ) → Light ws → (m : Mapping) (v : ℕ) → v < 3 → weighed_sizes ws m v ≤ 2 ^ 43
+pub weighed_sizes_most : (ws : List ℕ) → ((i : ℕ) → get_or ws i 0 ≤ 64) → (m : Mapping) (v : ℕ) → v < 3 → weighed_sizes ws m v ≤ 2 ^ 43
 unfolding weighed_sizes
 weighed_sizes_most ws light m v h =
     let t = total_most (terms m.degrees) (64 * 2 ^ 31) (λ t. get_or ws (exponent m.degrees v t) 0 * nat_abs (get_or m.coefficients t (pos 0)))
-    (λ t l. mul-le-mul (light (exponent m.degrees v t) (exponent_small m v h t l)) (nat_abs-le (get_or m.coefficients t (pos 0)) (m.narrow t))) in
+    (λ t l. mul-le-mul (light (exponent m.degrees v t)) (nat_abs-le (get_or m.coefficients t (pos 0)) (m.narrow t))) in
     omega (arith, mul-le-mul_right (64 * 2 ^ 31) m.small)

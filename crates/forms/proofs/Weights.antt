@@ -1,5 +1,5 @@
 -- The weights of exponents from which the two slacks come: the exponent i itself, and i(i - 1). Assumes nothing.
-use Rattle.std.proofs.Common.{◌≡◌, ℕ, zero, suc, ◌-◌, ◌*◌, ◌<◌, ◌≤◌, List, [], ◌∷◌, get_or, pos, nat_abs, refl, ap, ◌∙◌, mul_comm, mul-le-mul, arith}
+use Rattle.std.proofs.Common.{◌≡◌, ℕ, zero, suc, ◌-◌, ◌*◌, ◌<◌, ◌≤◌, List, [], ◌∷◌, get_or, pos, nat_abs, refl, ap, ◌∙◌, mul_comm, arith}
 use Rattle.arith.proofs.Sums.{sum_ext}
 use Rattle.mapping.specs.Terms.{terms}
 use Rattle.mapping.specs.declared.mapping.Mapping.{Mapping}
@@ -9,7 +9,6 @@ use Rattle.forms.specs.Totals.{weighed_sizes}
 use Rattle.forms.proofs.Added.{pos_total}
 use Rattle.forms.proofs.Bends.{bend, all_bends, exponent_small}
 use Rattle.forms.proofs.Places.{exponent}
-use Rattle.forms.proofs.Sizing.{Light}
 
 eight_cases : (P : ℕ → Type 0) → P 0 → P 1 → P 2 → P 3 → P 4 → P 5 → P 6 → P 7 → (i : ℕ) → i ≤ 7 → P i
 eight_cases P a b c d e f g h zero l = a
@@ -34,27 +33,18 @@ exponent_is = eight_cases (λ i. get_or by_exponent i 0 ≡ i) refl refl refl re
 pairs_is : (i : ℕ) → i ≤ 7 → get_or by_pairs i 0 ≡ i * (i - 1)
 pairs_is = eight_cases (λ i. get_or by_pairs i 0 ≡ i * (i - 1)) refl refl refl refl refl refl refl refl
 
-pub exponent_light : Light by_exponent
-exponent_light i l = omega (arith, exponent_is i l)
-
-pub pairs_light : Light by_pairs
-pairs_light i l =
-    let less : i - 1 ≤ 6 = omega arith in
-    let most : i * (i - 1) ≤ 42 = mul-le-mul l less in
-    omega (arith, pairs_is i l)
-
 module _ (m : Mapping) (v : ℕ) (input : v < 3) where
   abbrev size : ℕ → ℕ
   size t = nat_abs (get_or m.coefficients t (pos 0))
 
-  pub moment_is : pos (weighed_sizes by_exponent m v) ≡ moment m v
+  moment_is : pos (weighed_sizes by_exponent m v) ≡ moment m v
   unfolding weighed_sizes moment
   moment_is =
       pos_total (terms m.degrees) (λ t. get_or by_exponent (exponent m.degrees v t) 0 * size t)
       ∙ sum_ext (terms m.degrees) (λ t. pos (get_or by_exponent (exponent m.degrees v t) 0 * size t)) (λ t. pos (exponent m.degrees v t * size t)) (λ t l.
       ap (λ e. pos (e * size t)) (exponent_is (exponent m.degrees v t) (exponent_small m v input t l)))
 
-  pub bends_is : pos (weighed_sizes by_pairs m v) ≡ bends m v
+  bends_is : pos (weighed_sizes by_pairs m v) ≡ bends m v
   unfolding weighed_sizes
   bends_is =
       pos_total (terms m.degrees) (λ t. get_or by_pairs (exponent m.degrees v t) 0 * size t)
@@ -62,3 +52,11 @@ module _ (m : Mapping) (v : ℕ) (input : v < 3) where
       ap (λ e. pos (e * size t)) (pairs_is (exponent m.degrees v t) (exponent_small m v input t l))
       ∙ ap pos (mul_comm (exponent m.degrees v t * (exponent m.degrees v t - 1)) (size t)))
       ∙ all_bends m v input
+
+-- the sums that code has for the three inputs
+module _ (m : Mapping) (sums : List ℕ) where
+  pub moments_are : ((v : ℕ) → v < 3 → get_or sums v 0 ≡ weighed_sizes by_exponent m v) → (v : ℕ) → v < 3 → pos (get_or sums v 0) ≡ moment m v
+  moments_are is v l = ap pos (is v l) ∙ moment_is m v l
+
+  pub bends_are : ((v : ℕ) → v < 3 → get_or sums v 0 ≡ weighed_sizes by_pairs m v) → (v : ℕ) → v < 3 → pos (get_or sums v 0) ≡ bends m v
+  bends_are is v l = ap pos (is v l) ∙ bends_is m v l

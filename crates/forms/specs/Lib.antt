@@ -41,3 +41,4 @@ pub mod TablesLemmas
 pub mod Tighter
 pub mod Weighed
 pub mod Widths
+pub mod WorkLemmas

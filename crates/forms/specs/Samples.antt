@@ -10,8 +10,10 @@ use Rattle.std.specs.Prelude.{◌≡◌, ℕ, zero, suc, ◌^◌, ◌<◌, ◌�
 use Rattle.std.proofs.Common.{le_trans, arith, sym, subst, lit<, lit≤}
 use Rattle.std.specs.Int.Signed.{mag}
 use Rattle.std.specs.List.{AllByRecursion}
+use Rattle.mapping.specs.Cells.{whole_part, depth, place}
 use Rattle.mapping.specs.Terms.{terms}
 use Rattle.mapping.specs.declared.cell.Cell.{Cell}
+use Rattle.mapping.specs.declared.cell.Shape.{Shape}
 use Rattle.mapping.specs.declared.kind.Kind.TheVariants.{Unsigned8}
 use Rattle.mapping.specs.declared.mapping.Mapping.{Mapping}
 use Rattle.forms.specs.Nested.{nested, corner_ends}
@@ -94,13 +96,14 @@ twist =
 
 -- input 1 at this depth and place, the others whole
 abbrev pub along_one : (d q : ℕ) → d ≤ 10 → q < 2 ^ d → Cell
-along_one d q shallow inside = record {
-  shape = record { depths = d ∷ (0 ∷ (0 ∷ [])); places = q ∷ (0 ∷ (0 ∷ [])) };
-  depths3 = refl;
-  places3 = refl;
-  shallow = three (λ v. slice_index (d ∷ (0 ∷ (0 ∷ []))) v ≤ 10) shallow (lit≤ tt) (lit≤ tt);
-  inside = three (λ v. slice_index (q ∷ (0 ∷ (0 ∷ []))) v < 2 ^ slice_index (d ∷ (0 ∷ (0 ∷ []))) v) inside (lit< tt) (lit< tt);
-}
+along_one d q shallow inside =
+    let s : Shape = record { parts = record { depth = d; place = q } ∷ (whole_part ∷ (whole_part ∷ [])) } in
+    record {
+      shape = s;
+      three = refl;
+      shallow = three (λ v. depth s v ≤ 10) shallow (lit≤ tt) (lit≤ tt);
+      inside = three (λ v. place s v < 2 ^ depth s v) inside (lit< tt) (lit< tt);
+    }
 
 abbrev pub whole : Cell
 whole = along_one 0 0 (lit≤ tt) (lit< tt)

@@ -1,9 +1,9 @@
 // The Bernstein form: Bernstein coefficients on the whole box, halved down to the cell, with every rounding outward.
-ghost use Rattle.std.specs.Prelude.{◌≡◌, ℕ, ◌-◌, ◌<◌, ◌≤◌};
+ghost use Rattle.std.specs.Prelude.{◌≡◌, ◌-◌, ◌<◌, length};
 ghost use Rattle.mapping.specs.Values.{degree};
 ghost use Rattle.forms.specs.Arrays.{numbers, grid, Fills};
 ghost use Rattle.forms.specs.Bernstein.{bernstein};
-ghost use Rattle.forms.specs.Sides.{outer, extreme};
+ghost use Rattle.forms.specs.Sides.{extreme};
 ghost use Rattle.forms.specs.Stages.{end, held, on_box, on_cell};
 ghost use Rattle.forms.specs.declared.side.Side.TheVariants.{Low};
 ghost use Rattle.forms.specs.Tables.{least_of};
@@ -17,7 +17,8 @@ use crate::grid::along;
 use crate::side::Side;
 use crate::slack::slack;
 use crate::whole::first_tables;
-use crate::work::Work;
+use crate::wide::degrees;
+use crate::work::Halve;
 use mapping::cell::Cell;
 use mapping::mapping::{MOST_TERMS, Mapping};
 
@@ -26,57 +27,48 @@ use mapping::mapping::{MOST_TERMS, Mapping};
 pub struct Bernstein;
 
 /// Halves a table on the box down to the cell: by all digits of the place of input 1, then of input 2, then of input 3.
-fn halve_table(table: &mut [i64; 64], m: &Mapping, c: &Cell)
+fn halve_table(table: &mut [i64; MOST_TERMS], m: &Mapping, c: &Cell)
     requires { EachWithin summable table.old }
     ensures value { Fills m.now.degrees table.new (on_cell Low m.now c.now (grid m.now.degrees table.old)) }
     ensures size { EachWithin summable table.new }
 {
-    let [first, second, third] = m.degrees;
-    let (n1, n2, n3) = (first as usize, second as usize, third as usize);
-    let [d1, d2, d3] = c.shape.depths;
-    let [m1, m2, m3] = c.shape.places;
-    along(table, n1, (n2 + 1) * (n3 + 1), Work::Halve(d1, m1));
-    along(table, n2, (n3 + 1) * (n1 + 1), Work::Halve(d2, m2));
-    along(table, n3, (n1 + 1) * (n2 + 1), Work::Halve(d3, m3));
+    let [n1, n2, n3] = degrees(m);
+    let [part1, part2, part3] = c.shape.parts;
+    along(table, n1, (n2 + 1) * (n3 + 1), Halve(part1));
+    along(table, n2, (n3 + 1) * (n1 + 1), Halve(part2));
+    along(table, n3, (n1 + 1) * (n2 + 1), Halve(part3));
 }
 
-/// The smaller of two numbers.
-fn smaller(x: i64, y: i64) -> i64
-    ensures value { result ≡ outer Low x y }
+/// The least number of a slice that is not empty.
+fn least(xs: &[i64]) -> i64
+    requires { 0 < length xs.now }
+    ensures value { result ≡ extreme Low (length xs.now - 1) (numbers xs.now) }
 {
-    x.min(y)
-}
-
-/// The least of the first `count` numbers of the table.
-fn least(table: &[i64; 64], count: usize) -> i64
-    requires some { 0 < count }
-    requires within { count ≤ 64 }
-    ensures value { result ≡ extreme Low (count - 1) (numbers table.now) }
-{
-    let mut end = table[0];
-    for x in &table[1..count] {
-        end = smaller(end, *x);
+    let mut end = xs[0];
+    for x in &xs[1..] {
+        end = end.min(*x);
     }
     end
 }
 
 /// The least number on the cell of a table on the box, which is used up.
-fn least_on(table: &mut [i64; 64], m: &Mapping, c: &Cell) -> i64
+fn least_on(table: &mut [i64; MOST_TERMS], m: &Mapping, c: &Cell) -> i64
     requires { EachWithin summable table.old }
     ensures value { result ≡ least_of (degree m.now 0) (degree m.now 1) (degree m.now 2) (on_cell Low m.now c.now (grid m.now.degrees table.old)) }
     ensures size { Within summable result }
 {
     halve_table(table, m, c);
-    least(table, m.terms())
+    least(&table[..m.terms()])
 }
 
 /// One end of the enclosure, from the table of its side, which is used up.
-fn end(table: &mut [i64; 64], m: &Mapping, c: &Cell, side: Side) -> i64
+fn end(table: &mut [i64; MOST_TERMS], m: &Mapping, c: &Cell, side: Side) -> i64
     requires size { EachWithin summable table.old }
     requires table { Fills m.now.degrees table.old (held side (on_box side m.now)) }
     ensures value { result ≡ end side (bernstein m.now c.now) }
 {
     let least = least_on(table, m, c);
+    // The side is a value, since the definitions speak of both sides by it; here it only turns the sign.
     match side {
         Side::Low => least,
         Side::High => -least,
@@ -89,6 +81,7 @@ impl Form for Bernstein {
     ghost sound = { λ f. bernstein_rules };
 
     fn ask(&self, m: &Mapping, c: &Cell) -> Answer {
+        // Two tables, one for each side: plain arrays, since there is no heap.
         let mut low = [0; MOST_TERMS];
         let mut mirrored = [0; MOST_TERMS];
         first_tables(m, &mut low, &mut mirrored);

@@ -2,25 +2,27 @@
 ghost use Rattle.std.specs.Prelude.{◌≡◌, ◌<◌, ◌≤◌};
 ghost use Rattle.forms.specs.Choose.{factorial, choose, weight};
 
+// A degree is a plain number, as a mapping holds it: each function asks for its limit.
+
 /// One more than the highest degree.
 const DEGREES: usize = 8;
 
-const FACTORIALS: [u64; 8] = [1, 1, 2, 6, 24, 120, 720, 5040];
+const FACTORIALS: [u32; DEGREES] = [1, 1, 2, 6, 24, 120, 720, 5040];
 
-/// "n over i" stands at `n * 8 + i`.
+/// "n over i" stands in row `n` at `i`.
 #[rattlefmt::skip]
-const BINOMIALS: [u64; 64] = [
-    1, 0, 0, 0, 0, 0, 0, 0,
-    1, 1, 0, 0, 0, 0, 0, 0,
-    1, 2, 1, 0, 0, 0, 0, 0,
-    1, 3, 3, 1, 0, 0, 0, 0,
-    1, 4, 6, 4, 1, 0, 0, 0,
-    1, 5, 10, 10, 5, 1, 0, 0,
-    1, 6, 15, 20, 15, 6, 1, 0,
-    1, 7, 21, 35, 35, 21, 7, 1,
+const BINOMIALS: [[u32; DEGREES]; DEGREES] = [
+    [1, 0, 0, 0, 0, 0, 0, 0],
+    [1, 1, 0, 0, 0, 0, 0, 0],
+    [1, 2, 1, 0, 0, 0, 0, 0],
+    [1, 3, 3, 1, 0, 0, 0, 0],
+    [1, 4, 6, 4, 1, 0, 0, 0],
+    [1, 5, 10, 10, 5, 1, 0, 0],
+    [1, 6, 15, 20, 15, 6, 1, 0],
+    [1, 7, 21, 35, 35, 21, 7, 1],
 ];
 
-pub(crate) fn factorial(n: usize) -> u64
+pub(crate) fn factorial(n: usize) -> u32
     requires { n < 8 }
     ensures value { result ≡ factorial n }
     ensures small { result ≤ 5040 }
@@ -29,17 +31,17 @@ pub(crate) fn factorial(n: usize) -> u64
 }
 
 /// The binomial coefficient "n over i": 0 where `i` is above `n`.
-pub(crate) fn choose(n: usize, i: usize) -> u64
+pub(crate) fn choose(n: usize, i: usize) -> u32
     requires upper { n < 8 }
     requires lower { i < 8 }
     ensures value { result ≡ choose n i }
     ensures small { result ≤ 35 }
 {
-    BINOMIALS[n * DEGREES + i]
+    BINOMIALS[n][i]
 }
 
 /// What a coefficient with exponent `i` counts for in the Bernstein coefficient at `j`, times n!.
-pub(crate) fn weight(n: usize, j: usize, i: usize) -> u64
+pub(crate) fn weight(n: usize, j: usize, i: usize) -> u32
     requires degree { n < 8 }
     requires place { j ≤ n }
     requires exponent { i ≤ n }

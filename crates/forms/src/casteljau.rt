@@ -1,10 +1,13 @@
 // De Casteljau's halving of a row, every mean rounded down. A row of degree N has N + 1 numbers, at the places 0 to N of an array. The
-// degree is known to the compiler, so that a row can stay in registers from the first digit to the last.
+// degree is known to the compiler, so that a row can stay in registers from the first digit to the last. Its limit, and the size of
+// the numbers, stand in each contract: a row is a plain array of eight, in no type of its own.
 ghost use Rattle.std.specs.Prelude.{◌≡◌, ℕ, ◌+◌, ◌<◌, ◌≤◌};
 ghost use Rattle.forms.specs.Arrays.{numbers, Holds};
 ghost use Rattle.forms.specs.Halving.{mean_down, kept, deep};
 ghost use Rattle.forms.specs.Worked.{Within};
 ghost use Rattle.forms.specs.Works.{summable, EachWithin};
+
+use mapping::cell::Part;
 
 /// Half the sum of `x` and `y`, rounded down.
 fn mean(x: i64, y: i64) -> i64
@@ -24,6 +27,7 @@ fn round(mut row: [i64; 8], count: usize) -> [i64; 8]
     ensures rest { (k : ℕ) → count ≤ k → numbers result k ≡ numbers row k }
     ensures size { EachWithin summable result }
 {
+    // By index: the right neighbour is read while the place is written.
     for k in 0..count {
         row[k] = mean(row[k], row[k + 1]);
     }
@@ -38,8 +42,10 @@ fn halve<const N: usize>(row: [i64; 8], digit: u16) -> [i64; 8]
     ensures value { Holds N result (kept mean_down N digit (numbers row)) }
     ensures size { EachWithin summable result }
 {
+    // The digit is a number: it is cut out of the place of a part, and there it stands for a half.
     let mut lower = row;
     let mut upper = row;
+    // By index: the number of a round says how many places it has and where its first number goes.
     for t in 0..N {
         let next = round(upper, N - t);
         upper = next;
@@ -48,16 +54,17 @@ fn halve<const N: usize>(row: [i64; 8], digit: u16) -> [i64; 8]
     if digit == 0 { lower } else { upper }
 }
 
-/// The row on the part with this depth and place: a halving for each digit of the place, the most significant first.
-pub(crate) fn halve_to<const N: usize>(mut row: [i64; 8], depth: u8, place: u16) -> [i64; 8]
+/// The row on the part: a halving for each digit of its place, the most significant first.
+pub(crate) fn halve_to<const N: usize>(mut row: [i64; 8], part: Part) -> [i64; 8]
     requires degree { N < 8 }
-    requires shallow { depth ≤ 10 }
+    requires shallow { part.depth ≤ 10 }
     requires size { EachWithin summable row }
-    ensures value { Holds N result (deep (kept mean_down N) depth place (numbers row)) }
+    ensures value { Holds N result (deep (kept mean_down N) part.depth part.place (numbers row)) }
     ensures size { EachWithin summable result }
 {
-    for t in 0..depth {
-        let digit = (place >> (depth - 1 - t)) % 2;
+    // The depth's limit is asked for: a part is plain numbers, as a region's row holds it.
+    for t in (0..part.depth).rev() {
+        let digit = (part.place >> t) % 2;
         let half = halve::<N>(row, digit);
         row = half;
     }

@@ -15,6 +15,7 @@ pub trait Form {
     ghost meaning: { Self → Mapping → Cell → Answer };
 
     /// The enclosure of the mapping's values over the cell, and the slack.
+    // A mapping and a cell apart: an enquiry keeps one mapping for all its cells.
     fn ask(&self, m: &Mapping, c: &Cell) -> Answer
         ensures value { result ≡ meaning self.now m.now c.now };
 

@@ -8,8 +8,9 @@ pub mod nested;
 pub mod pair;
 pub mod samples;
 
-// What both of them take their slack from.
+// What both of them read a mapping by, and take their slack from.
 mod sums;
+mod wide;
 
 // What the nested form is made of.
 mod table;

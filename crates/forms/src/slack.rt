@@ -1,25 +1,16 @@
-// The slack of the Bernstein form. Inputs are counted from 0 here.
-ghost use Rattle.std.specs.Prelude.{◌≡◌, ℕ, ◌^◌, ◌<◌, ◌≤◌, pos, ◌≤ℤ◌, slice_index};
+// The slack of the Bernstein form.
+ghost use Rattle.std.specs.Prelude.{◌≡◌, ◌^◌, ◌≤◌, pos, ◌≤ℤ◌};
 ghost use Rattle.forms.specs.Bernstein.{bernstein};
-ghost use Rattle.forms.specs.Stages.{bends};
 ghost use Rattle.forms.specs.Tables.{loss};
 
-use crate::sums::weighed_sizes;
-use arith::{up_by, up_by_power};
+use crate::sums::{BY_PAIRS, share, weighed_sizes};
+use arith::Power;
 use mapping::cell::Cell;
 use mapping::mapping::Mapping;
 use std::num::NonZeroU64;
 
-/// For each input the sum of |a| · i(i - 1) over all coefficients a, with i the input's exponent.
-fn bends(m: &Mapping) -> [u64; 3]
-    ensures value { (v : ℕ) → v < 3 → pos (slice_index result v) ≡ bends m.now v }
-    ensures most { (v : ℕ) → v < 3 → slice_index result v ≤ 2 ^ 43 }
-{
-    weighed_sizes(m, &[0, 0, 2, 6, 12, 20, 30, 42])
-}
-
-/// What an input of degree `n` and depth `d` adds to the slack: one half for each halving of each number, and how far its bends `sum` lead
-/// away. A degree of 0 adds nothing.
+/// What an input of degree `n` and depth `d` adds to the slack: one half for each halving of each number, and how far its bends lead away,
+/// which are the `sum` of |a| · i(i - 1) over all coefficients a, with i the input's exponent. A degree of 0 adds nothing.
 fn loss(n: u8, d: u8, sum: u64) -> i64
     requires low { n ≤ 7 }
     requires shallow { d ≤ 10 }
@@ -28,10 +19,13 @@ fn loss(n: u8, d: u8, sum: u64) -> i64
     ensures least { pos 0 ≤ℤ result }
     ensures most { result ≤ℤ pos (2 ^ 44) }
 {
-    let halvings = n as u64 * d as u64;
-    match NonZeroU64::new((2 * n as u64) << (2 * d as u32)) {
+    // The limits are asked for: degree and depth are plain numbers, as a mapping and a region's row hold them.
+    let degree = u64::from(n);
+    let depth = u64::from(d);
+    let halvings = degree * depth;
+    match NonZeroU64::new((2 * degree) << (2 * depth)) {
         None => 0,
-        Some(divisor) => up_by_power(halvings as i64, 1) + up_by(sum as i64, divisor),
+        Some(divisor) => share(halvings, Power(1)) + share(sum, divisor),
     }
 }
 
@@ -39,9 +33,8 @@ fn loss(n: u8, d: u8, sum: u64) -> i64
 pub(crate) fn slack(m: &Mapping, c: &Cell) -> i64
     ensures value { result ≡ (bernstein m.now c.now).slack }
 {
-    let sums = bends(m);
-    let first = loss(m.degrees[0], c.shape.depths[0], sums[0]);
-    let second = loss(m.degrees[1], c.shape.depths[1], sums[1]);
-    let third = loss(m.degrees[2], c.shape.depths[2], sums[2]);
-    1 + (first + (second + third))
+    let [n1, n2, n3] = m.degrees;
+    let [first, second, third] = c.shape.parts;
+    let [x, y, z] = weighed_sizes(m, &BY_PAIRS);
+    1 + (loss(n1, first.depth, x) + (loss(n2, second.depth, y) + loss(n3, third.depth, z)))
 }

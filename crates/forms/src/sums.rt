@@ -1,77 +1,100 @@
-// Sums of the sizes of a mapping's coefficients, weighed by exponents. Both forms take their slack from them.
-ghost use Rattle.std.specs.Prelude.{◌≡◌, ℕ, ◌+◌, ◌*◌, ◌^◌, ◌<◌, ◌≤◌, slice_index};
+// Sums of the sizes of a mapping's coefficients, weighed by exponents, and their shares. Both forms take their slack from them.
+ghost use Rattle.std.specs.Prelude.{◌≡◌, ℕ, ◌+◌, ◌*◌, ◌^◌, ◌<◌, ◌≤◌, length, pos, ◌≤ℤ◌, slice_index, slice_index_or, unsigned_abs};
+ghost use Rattle.arith.specs.Rounding.{quot_up};
 ghost use Rattle.forms.specs.Totals.{total, row_sum, row_weighed, weighed_sizes};
 
+use crate::wide::degrees;
+use arith::{Divisor, up_by};
 use mapping::mapping::{MOST_TERMS, Mapping};
+use std::array;
 
-/// For each input the sum, over all coefficients, of the weight of the input's exponent times the coefficient's size. The exponent 0 has the
-/// weight 0.
-pub(crate) fn weighed_sizes(m: &Mapping, weights: &[u64; 8]) -> [u64; 3]
-    requires none { slice_index weights.now 0 ≡ 0 }
-    requires light { (i : ℕ) → i ≤ 7 → slice_index weights.now i ≤ 64 }
-    ensures value { (v : ℕ) → v < 3 → slice_index result v ≡ weighed_sizes weights.now m.now v }
+/// What each exponent counts for: the exponent 0 nothing, and no exponent more than 64.
+#[derive(Clone, Copy)]
+pub(crate) struct Weights {
+    each: [u64; 8],
+    ghost eight: { length each ≡ 8 },
+    ghost none: { slice_index each 0 ≡ 0 },
+    ghost light: { (i : ℕ) → slice_index each i ≤ 64 },
+}
+
+/// An exponent counts for itself.
+pub(crate) const BY_EXPONENT: Weights = Weights {
+    each: [0, 1, 2, 3, 4, 5, 6, 7],
+};
+
+/// An exponent i counts for i(i - 1).
+pub(crate) const BY_PAIRS: Weights = Weights {
+    each: [0, 0, 2, 6, 12, 20, 30, 42],
+};
+
+/// The coefficients' sizes.
+fn sizes(m: &Mapping) -> [u64; MOST_TERMS]
+    ensures value { (k : ℕ) → slice_index result k ≡ unsigned_abs (slice_index_or m.now.coefficients k (pos 0)) }
+{
+    array::from_fn(|k| u64::from(m.coefficients[k].unsigned_abs()))
+}
+
+/// For each input the sum, over all coefficients, of the weight of the input's exponent times the coefficient's size.
+pub(crate) fn weighed_sizes(m: &Mapping, weights: &Weights) -> [u64; 3]
+    ensures value { (v : ℕ) → v < 3 → slice_index result v ≡ weighed_sizes weights.now.each m.now v }
     ensures most { (v : ℕ) → v < 3 → slice_index result v ≤ 2 ^ 43 }
 {
-    let mut sizes = [0; MOST_TERMS];
-    for (k, a) in m.coefficients[..m.terms()].iter().enumerate() {
-        sizes[k] = u64::from(a.unsigned_abs());
-    }
-    let [first, second, third] = m.degrees;
-    let rows = first as usize + 1;
-    let of_third = add_rows(
-        &mut sizes,
-        rows * (second as usize + 1),
-        third as usize,
-        weights,
-    );
-    let of_second = add_rows(&mut sizes, rows, second as usize, weights);
-    let of_first = add_rows(&mut sizes, 1, first as usize, weights);
+    let mut sizes = sizes(m);
+    let [first, second, third] = degrees(m);
+    let rows = first + 1;
+    let of_third = add_rows(&mut sizes, rows * (second + 1), third, weights);
+    let of_second = add_rows(&mut sizes, rows, second, weights);
+    let of_first = add_rows(&mut sizes, 1, first, weights);
     [of_first, of_second, of_third]
 }
 
 /// Row `t` of the numbers for each `t` below `rows`, added up into place `t`: rows are `degree + 1` long, so that no later row reads that
 /// place. Returns the sum of all rows, each number times the weight of its place in the row.
-fn add_rows(numbers: &mut [u64; MOST_TERMS], rows: usize, degree: usize, weights: &[u64; 8]) -> u64
+fn add_rows(numbers: &mut [u64; MOST_TERMS], rows: usize, degree: usize, weights: &Weights) -> u64
     requires room { rows * (degree + 1) ≤ 64 }
     requires degree { degree ≤ 7 }
     requires small { (k : ℕ) → k < rows * (degree + 1) → slice_index numbers.old k ≤ 2 ^ 37 }
-    requires none { slice_index weights.now 0 ≡ 0 }
-    requires light { (i : ℕ) → i ≤ 7 → slice_index weights.now i ≤ 64 }
     ensures sums { (t : ℕ) → t < rows → slice_index numbers.new t ≡ row_sum degree numbers.old (t * (degree + 1)) }
-    ensures value { result ≡ total rows (λ t. row_weighed weights.now degree numbers.old (t * (degree + 1))) }
+    ensures value { result ≡ total rows (λ t. row_weighed weights.now.each degree numbers.old (t * (degree + 1))) }
 {
     // A row of one number is its own sum, and its weight is 0.
     if degree == 0 {
         return 0;
     }
     let mut all = 0;
+    // By index: rows are read from the array that their sums are written to.
     for t in 0..rows {
-        let (sum, weighed) = add_row(numbers, t * (degree + 1), degree, weights);
+        let start = t * (degree + 1);
+        let (sum, weighed) = add_row(&numbers[start..=start + degree], weights);
         numbers[t] = sum;
         all += weighed;
     }
     all
 }
 
-/// The sum of the `degree + 1` numbers from `start` on, and the same with each number times the weight of its place.
-fn add_row(
-    numbers: &[u64; MOST_TERMS],
-    start: usize,
-    degree: usize,
-    weights: &[u64; 8],
-) -> (u64, u64)
-    requires room { start + degree < 64 }
-    requires degree { degree ≤ 7 }
-    requires small { (k : ℕ) → k ≤ degree → slice_index numbers.now (start + k) ≤ 2 ^ 37 }
-    requires light { (i : ℕ) → i ≤ 7 → slice_index weights.now i ≤ 64 }
-    ensures sum { result.0 ≡ row_sum degree numbers.now start }
-    ensures weighed { result.1 ≡ row_weighed weights.now degree numbers.now start }
+/// The sum of a row's numbers, and the same with each number times the weight of its place.
+fn add_row(row: &[u64], weights: &Weights) -> (u64, u64)
+    requires few { length row.now ≤ 8 }
+    requires small { (k : ℕ) → k < length row.now → slice_index row.now k ≤ 2 ^ 37 }
+    ensures sum { result.0 ≡ total (length row.now) (λ k. slice_index row.now k) }
+    ensures weighed { result.1 ≡ total (length row.now) (λ k. slice_index weights.now.each k * slice_index row.now k) }
 {
     let mut sum = 0;
     let mut weighed = 0;
-    for k in 0..degree + 1 {
-        sum += numbers[start + k];
-        weighed += weights[k] * numbers[start + k];
+    for (x, weight) in row.iter().zip(&weights.each) {
+        sum += *x;
+        weighed += *weight * *x;
     }
     (sum, weighed)
+}
+
+/// What a sum gives to a slack: the sum over a divisor, rounded up.
+pub(crate) fn share<D: Divisor>(sum: u64, by: D) -> i64
+    requires { sum ≤ 2 ^ 43 }
+    ensures value { result ≡ quot_up (pos sum) (D.Divisor.number by) }
+    ensures least { pos 0 ≤ℤ result }
+    ensures most { result ≤ℤ pos (2 ^ 43) }
+{
+    // By `as`, which is shown to lose nothing: `try_from` would add a refusal that cannot come.
+    up_by(sum as i64, by)
 }

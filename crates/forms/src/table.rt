@@ -1,15 +1,17 @@
 // A table of enclosures, and how the nested form works off one input of it.
-ghost use Rattle.std.specs.Prelude.{◌≡◌, ℕ, ◌+◌, ◌*◌, ◌^◌, ◌<◌, ◌≤◌, length, pos, slice_index_or};
-ghost use Rattle.forms.specs.Worked.{low_of, high_of, worked, Small, SmallRow};
+ghost use Rattle.std.specs.Prelude.{◌≡◌, ℕ, ◌+◌, ◌*◌, ◌-◌, ◌^◌, ◌<◌, ◌≤◌, length, pos, slice_index_or};
+ghost use Rattle.forms.specs.Worked.{low_of, high_of, worked, Small};
 
+use crate::wide::widen;
 use arith::{Factor, times};
 use mapping::mapping::{MOST_TERMS, Mapping};
 
 /// Enclosures, one for each combination of exponents of the inputs that are not worked off yet; the last input's exponent runs fastest.
+// Low and high ends stand in an array each, as plain numbers.
 #[derive(Clone, Copy)]
 pub(crate) struct Table {
-    pub(crate) low: [i64; 64],
-    pub(crate) high: [i64; 64],
+    pub(crate) low: [i64; MOST_TERMS],
+    pub(crate) high: [i64; MOST_TERMS],
     ghost lows: { length low ≡ 64 },
     ghost highs: { length high ≡ 64 },
 }
@@ -20,15 +22,12 @@ impl Table {
         ensures low { (k : ℕ) → slice_index_or result.low k (pos 0) ≡ slice_index_or m.now.coefficients k (pos 0) }
         ensures high { (k : ℕ) → slice_index_or result.high k (pos 0) ≡ slice_index_or m.now.coefficients k (pos 0) }
     {
-        let mut table = Table {
-            low: [0; MOST_TERMS],
-            high: [0; MOST_TERMS],
-        };
-        for (k, a) in m.coefficients[..m.terms()].iter().enumerate() {
-            table.low[k] = i64::from(*a);
-            table.high[k] = i64::from(*a);
+        let mut ends = [0; MOST_TERMS];
+        widen(m, &mut ends);
+        Table {
+            low: ends,
+            high: ends,
         }
-        table
     }
 
     /// Row `t` of the table for each `t` below `rows`, worked off into place `t`: rows are `degree + 1` long, so that no later row reads
@@ -41,33 +40,40 @@ impl Table {
         ensures low { (t : ℕ) → t < rows → slice_index_or self.new.low t (pos 0) ≡ worked (low_of by) degree self.old.low (t * (degree + 1)) }
         ensures high { (t : ℕ) → t < rows → slice_index_or self.new.high t (pos 0) ≡ worked (high_of by) degree self.old.high (t * (degree + 1)) }
     {
-        // A row of one number is worked off as it stands.
+        // The degree's limit is asked for, since a degree is a plain number. A row of one number is worked off as it stands.
         if degree == 0 {
             return;
         }
+        // By index: rows are read from the arrays that their ends are written to.
         for t in 0..rows {
-            let (low, high) = self.row(t * (degree + 1), degree, by);
+            let start = t * (degree + 1);
+            let end = start + degree;
+            let lows = &self.low;
+            let highs = &self.high;
+            let (low, high) = horner(&lows[start..=end], &highs[start..=end], by);
             self.low[t] = low;
             self.high[t] = high;
         }
     }
+}
 
-    /// The row of `degree + 1` enclosures from `start` on, by Horner's rule.
-    fn row(&self, start: usize, degree: usize, by: Factor) -> (i64, i64)
-        requires room { start + degree < 64 }
-        requires degree { degree ≤ 7 }
-        requires low { SmallRow (2 ^ 40) degree self.now.low start }
-        requires high { SmallRow (2 ^ 40) degree self.now.high start }
-        ensures low { result.0 ≡ worked (low_of by) degree self.now.low start }
-        ensures high { result.1 ≡ worked (high_of by) degree self.now.high start }
-    {
-        let mut low = self.low[start + degree];
-        let mut high = self.high[start + degree];
-        for k in (0..degree).rev() {
-            let (l, h) = times(low, high, by);
-            low = l + self.low[start + k];
-            high = h + self.high[start + k];
-        }
-        (low, high)
+/// A row of low ends and one of high ends, by Horner's rule.
+fn horner(lows: &[i64], highs: &[i64], by: Factor) -> (i64, i64)
+    requires some { 1 ≤ length lows.now }
+    requires few { length lows.now ≤ 8 }
+    requires alike { length highs.now ≡ length lows.now }
+    requires low { Small (2 ^ 40) (length lows.now) lows.now }
+    requires high { Small (2 ^ 40) (length lows.now) highs.now }
+    ensures low { result.0 ≡ worked (low_of by) (length lows.now - 1) lows.now 0 }
+    ensures high { result.1 ≡ worked (high_of by) (length lows.now - 1) highs.now 0 }
+{
+    let last = lows.len() - 1;
+    let mut low = lows[last];
+    let mut high = highs[last];
+    for (x, y) in lows[..last].iter().rev().zip(highs[..last].iter().rev()) {
+        let (l, h) = times(low, high, by);
+        low = l + *x;
+        high = h + *y;
     }
+    (low, high)
 }

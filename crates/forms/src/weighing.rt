@@ -16,8 +16,8 @@ fn numerator<const N: usize>(row: &[i64; 8], j: usize) -> i64
     ensures size { (b : ℕ) → EachWithin b row.now → Within (grown N b) result }
 {
     let mut sum = 0;
-    for i in 0..N + 1 {
-        sum += row[i] * weight(N, j, i) as i64;
+    for (i, x) in row[..=N].iter().enumerate() {
+        sum += x * i64::from(weight(N, j, i));
     }
     sum
 }
@@ -30,6 +30,7 @@ pub(crate) fn weigh<const N: usize>(row: [i64; 8]) -> [i64; 8]
     ensures size { (b : ℕ) → EachWithin b row → EachWithin (grown N b) result }
 {
     let mut sums = [0; 8];
+    // By index: only the first N + 1 of the eight places are written.
     for j in 0..N + 1 {
         sums[j] = numerator::<N>(&row, j);
     }

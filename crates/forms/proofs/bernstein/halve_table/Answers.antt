@@ -1,41 +1,39 @@
 -- Three turns bring the table back to its order. Assumes nothing.
-use Rattle.std.proofs.Common.{rules}
+use Rattle.std.proofs.Common.{◌≤◌, get_or, sym, subst}
 use Rattle.mapping.specs.Cells.{depth, place}
-use Rattle.mapping.specs.Values.{degree}
+use Rattle.mapping.specs.Terms.{terms}
+use Rattle.forms.specs.Arrays.{grid, Fills}
+use Rattle.forms.specs.Halving.{mean_down, kept, deep}
 use Rattle.forms.specs.Tables.{halved}
-use Rattle.forms.specs.Works.{done}
-use Rattle.forms.specs.declared.work.Work.TheVariants.{Halve}
+use Rattle.forms.specs.WorkLemmas.{deep_reads}
 use Rattle.forms.proofs.Filling.{rolled, turned_back}
-use Rattle.forms.proofs.Grown.{done_reads}
 use Rattle.forms.proofs.bernstein.halve_table.Goals as goal
 
-pub along-requires-2 : goal.along-requires-2
-along-requires-2 c =
-    let m = c.args.m.now in
-    record {
-      degree = search rules;
-      small = (rolled (degree m 0) (degree m 1) (degree m 2) m.small).0;
-      fit = (search rules, c.along.ensures.size);
-    }
+pub along-requires-2-clause-small : goal.along-requires-2-clause-small
+along-requires-2-clause-small c =
+    let ns = c.degrees.result in
+    (rolled (get_or ns 0 0) (get_or ns 1 0) (get_or ns 2 0) (subst (λ ns. terms ns ≤ 64) (sym c.degrees.ensures.value) c.args.m.now.small)).0
 
-pub along-requires-3 : goal.along-requires-3
-along-requires-3 c =
-    let m = c.args.m.now in
-    record {
-      degree = search rules;
-      small = (rolled (degree m 0) (degree m 1) (degree m 2) m.small).1;
-      fit = (search rules, c.along-2.ensures.size);
-    }
+pub along-requires-3-clause-small : goal.along-requires-3-clause-small
+along-requires-3-clause-small c =
+    let ns = c.degrees.result in
+    (rolled (get_or ns 0 0) (get_or ns 1 0) (get_or ns 2 0) (subst (λ ns. terms ns ≤ 64) (sym c.degrees.ensures.value) c.args.m.now.small)).1
 
-pub returns : goal.returns
+pub returns-clause-value : goal.returns-clause-value
 unfolding halved
-returns c =
-    let m = c.args.m.now in
+returns-clause-value c =
     let s = c.args.c.now.shape in
-    record {
-      value = turned_back (done (Halve (depth s 0) (place s 0)) (degree m 0)) (done (Halve (depth s 1) (place s 1)) (degree m 1)) (done (Halve (depth s 2) (place s 2)) (degree m 2))
-          (degree m 0) (degree m 1) (degree m 2) c.args.table.now c.along.new.table c.along-2.new.table c.along-3.new.table
-          (done_reads (Halve (depth s 0) (place s 0)) (degree m 0)) (done_reads (Halve (depth s 1) (place s 1)) (degree m 1)) (done_reads (Halve (depth s 2) (place s 2)) (degree m 2))
-          c.along.ensures.value c.along-2.ensures.value c.along-3.ensures.value;
-      size = c.along-3.ensures.size;
-    }
+    let xs = c.args.table.now in
+    let zs = c.along-3.new.table in
+    let ns = c.degrees.result in
+    subst
+    (λ ns.
+    Fills ns zs
+    (halved mean_down (get_or ns 0 0) (get_or ns 1 0) (get_or ns 2 0) (depth s 0) (place s 0) (depth s 1) (place s 1) (depth s 2) (place s 2) (grid ns xs)))
+    c.degrees.ensures.value
+    (turned_back (deep (kept mean_down (get_or ns 0 0)) (depth s 0) (place s 0)) (deep (kept mean_down (get_or ns 1 0)) (depth s 1) (place s 1))
+    (deep (kept mean_down (get_or ns 2 0)) (depth s 2) (place s 2)) (get_or ns 0 0) (get_or ns 1 0) (get_or ns 2 0)
+    xs c.along.new.table c.along-2.new.table zs
+    (deep_reads mean_down (get_or ns 0 0) (depth s 0) (place s 0)) (deep_reads mean_down (get_or ns 1 0) (depth s 1) (place s 1))
+    (deep_reads mean_down (get_or ns 2 0) (depth s 2) (place s 2))
+    c.along.ensures.value c.along-2.ensures.value c.along-3.ensures.value)

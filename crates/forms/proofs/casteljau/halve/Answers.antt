@@ -1,7 +1,7 @@
 -- A halving, round after round. Assumes nothing.
-use Rattle.std.proofs.Common.{◌≡◌, ◌+◌, ◌<◌, length, sym, refl, ap, ◌∙◌, subst, arith, length-set, rules}
+use Rattle.std.proofs.Common.{◌≡◌, ◌+◌, ◌<◌, length, sym, refl, subst, arith, length-set, rules}
 use Rattle.forms.specs.Arrays.{numbers}
-use Rattle.forms.specs.Halving.{mean_down, kept}
+use Rattle.forms.specs.Halving.{mean_down}
 use Rattle.forms.specs.Worked.{Within}
 use Rattle.forms.specs.Works.{summable}
 use Rattle.forms.proofs.Loops.{upper_start, upper_more, upper_end, lower_start, lower_more}
@@ -28,19 +28,7 @@ loop-t-preserved g c =
       c.round-next.ensures.size,
     )
 
-pub returns-then-digit-eq0 : goal.returns-then-digit-eq0
-returns-then-digit-eq0 g c =
-    let r = numbers c.args.row in
-    record {
-      value = λ k l. c.loop-t.invariant.2 k (omega (arith, l, c.loop-t-test.false)) ∙ ap (λ b. kept mean_down g.row.N b r k) (sym c.if-digit-eq0.true);
-      size = c.loop-t.invariant.4;
-    }
-
-pub returns-else-digit-eq0 : goal.returns-else-digit-eq0
-returns-else-digit-eq0 g c =
-    let r = numbers c.args.row in
+pub returns-else-digit-eq0-clause-value : goal.returns-else-digit-eq0-clause-value
+returns-else-digit-eq0-clause-value g c =
     let all : c.loop-t.t ≡ g.row.N = omega (arith, c.loop-t-test.false, c.loop-t.auto.t-end) in
-    record {
-      value = upper_end mean_down g.row.N r c.args.digit c.loop-t.t c.loop-t.upper all c.if-digit-eq0.false c.loop-t.invariant.3;
-      size = c.loop-t.invariant.5;
-    }
+    upper_end mean_down g.row.N (numbers c.args.row) c.args.digit c.loop-t.t c.loop-t.upper all c.if-digit-eq0.false c.loop-t.invariant.3

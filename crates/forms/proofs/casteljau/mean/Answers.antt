@@ -1,15 +1,13 @@
 -- The mean, from the shift of a sum. Assumes nothing.
-use Rattle.std.proofs.Common.{◌≡◌, ◌+ℤ◌, sym, subst, w64, SFits, to_z, of_z}
+use Rattle.std.proofs.Common.{◌≡◌, ◌+ℤ◌, w64, SFits, to_z, of_z}
 use lib.Signed.{shr_z}
 use Rattle.std.proofs.lemmas.Int.{to_z-of_z}
 use Rattle.forms.specs.Halving.{mean_down}
-use Rattle.forms.specs.Worked.{Within}
-use Rattle.forms.specs.Works.{summable}
-use Rattle.forms.proofs.Means.{half_down, sum_fits, mean_size, shift_fits}
+use Rattle.forms.proofs.Means.{half_down, sum_fits, shift_fits}
 use Rattle.forms.proofs.casteljau.mean.Goals as goal
 
-pub returns : goal.returns
-returns c =
+pub returns-clause-value : goal.returns-clause-value
+returns-clause-value c =
     let x = c.args.x in
     let y = c.args.y in
     let fx : SFits w64 x = c.ranges.x in
@@ -17,4 +15,4 @@ returns c =
     let s : SFits w64 (x +ℤ y) = sum_fits x y c.requires.left c.requires.right in
     let h : SFits w64 (shr_z (x +ℤ y) 2) = shift_fits x y c.requires.left c.requires.right in
     let is : to_z w64 (of_z w64 (shr_z (to_z w64 (of_z w64 (to_z w64 (of_z w64 x) +ℤ to_z w64 (of_z w64 y)))) 2)) ≡ mean_down x y = simp to_z-of_z (half_down x y) in
-    record { value = is; size = subst (Within summable) (sym is) (mean_size x y c.requires.left c.requires.right) }
+    is

@@ -1,9 +1,9 @@
--- The sums of the numbers before k. Assumes nothing.
-use Rattle.std.proofs.Common.{◌≡◌, ◌+◌, ◌*◌, get_or}
+-- The sums of the numbers so far. Assumes nothing.
+use Rattle.std.proofs.Common.{◌≡◌, ◌*◌, length, get_or}
 use Rattle.forms.specs.Totals.{total}
 use Rattle.forms.proofs.sums.add_row.Given as goal
 
-abbrev pub invariant-loop-k : goal.invariant-loop-k
-invariant-loop-k l =
-    (l.sum ≡ total l.k (λ i. get_or l.numbers (l.start + i) 0))
-    × (l.weighed ≡ total l.k (λ i. get_or l.weights i 0 * get_or l.numbers (l.start + i) 0))
+abbrev pub invariant-loop-x : goal.invariant-loop-x
+invariant-loop-x l =
+    (l.sum ≡ total (length l.yielded) (λ i. get_or l.row i 0))
+    × (l.weighed ≡ total (length l.yielded) (λ i. get_or l.weights.each i 0 * get_or l.row i 0))

@@ -8,4 +8,4 @@ abbrev pub invariant-loop-t : goal.invariant-loop-t
 invariant-loop-t l =
     (length l.numbers ≡ 64)
     × Upto 0 (λ j. row_sum l.degree l.initial.numbers (j * (l.degree + 1))) (λ j. get_or l.initial.numbers j 0) l.t l.numbers
-    × (l.all ≡ total l.t (λ j. row_weighed l.weights l.degree l.initial.numbers (j * (l.degree + 1))))
+    × (l.all ≡ total l.t (λ j. row_weighed l.weights.each l.degree l.initial.numbers (j * (l.degree + 1))))

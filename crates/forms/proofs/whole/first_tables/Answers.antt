@@ -1,5 +1,5 @@
 -- Two tables, one more number in each at each turn. Assumes nothing.
-use Rattle.std.proofs.Common.{◌≡◌, ℕ, ◌<◌, length, ℤ, pos, ◌-ℤ◌, neg_ℤ, sym, refl, ap, ◌∙◌, subst, ap₂, arith, length-set, w64, SFits, to_z, of_z, rules}
+use Rattle.std.proofs.Common.{◌≡◌, ℕ, ◌<◌, length, ℤ, pos, ◌-ℤ◌, neg_ℤ, sym, ap, ◌∙◌, subst, ap₂, arith, length-set, w64, SFits, to_z, of_z}
 use lib.IntN.{+ℤ_idl}
 use Rattle.arith.specs.Rounding.{quot_down, quot_up}
 use Rattle.mapping.specs.Terms.{flat}
@@ -9,21 +9,9 @@ use Rattle.forms.specs.Works.{summable}
 use Rattle.forms.specs.Worked.{Within}
 use Rattle.forms.proofs.Between.{first_text}
 use Rattle.forms.proofs.Filling.{place_more, places_behind}
-use Rattle.forms.proofs.Grown.{all_zeros}
 use Rattle.forms.proofs.Places.{flat_below}
 use Rattle.forms.proofs.Bounded.{all_set, summable_fits, word, within_neg, within_down, within_up}
 use Rattle.forms.proofs.whole.first_tables.Goals as goal
-
-pub loop-index-init : goal.loop-index-init
-loop-index-init c = (
-  search rules,
-  search rules,
-  λ t l. absurd (omega arith),
-  λ t l. absurd (omega arith),
-  λ t l. refl,
-  c.numerators.ensures.size,
-  all_zeros summable c.args.mirrored.now c.requires.high,
-)
 
 module _ (c : goal.After-struct_told-in-loop-index-1) where
   abbrev t : ℕ
@@ -80,20 +68,20 @@ loop-index-preserved c =
       all_set summable high (t c) _ high_room inv.6 (subst (Within summable) (sym minus) (minus_within c)),
     )
 
-pub returns : goal.returns
-returns c =
+pub returns-clause-low : goal.returns-clause-low
+returns-clause-low c =
     let m = c.args.m.now in
-    let nums = c.numerators.new.table in
-    record {
-      low = λ i j k il jl kl.
-          let below : flat m.degrees i j k < c.loop-index.index = omega (arith, flat_below m.degrees i j k il jl kl, c.terms-index-end.ensures.value, c.loop-index-test.false) in
-          c.loop-index.invariant.2 (flat m.degrees i j k) below
-          ∙ ap₂ quot_down (c.numerators.ensures.value i j k il jl kl) c.denominator-denominator.ensures.value
-          ∙ first_text quot_down (degree m 0) (degree m 1) (degree m 2) (coefficient m) i j k;
-      high = λ i j k il jl kl.
-          let below : flat m.degrees i j k < c.loop-index.index = omega (arith, flat_below m.degrees i j k il jl kl, c.terms-index-end.ensures.value, c.loop-index-test.false) in
-          c.loop-index.invariant.3 (flat m.degrees i j k) below
-          ∙ ap neg_ℤ (ap₂ quot_up (c.numerators.ensures.value i j k il jl kl) c.denominator-denominator.ensures.value
-          ∙ first_text quot_up (degree m 0) (degree m 1) (degree m 2) (coefficient m) i j k);
-      sizes = (c.loop-index.invariant.5, c.loop-index.invariant.6);
-    }
+    λ i j k il jl kl.
+    let below : flat m.degrees i j k < c.loop-index.index = omega (arith, flat_below m.degrees i j k il jl kl, c.terms-index-end.ensures.value, c.loop-index-test.false) in
+    c.loop-index.invariant.2 (flat m.degrees i j k) below
+    ∙ ap₂ quot_down (c.numerators.ensures.value i j k il jl kl) c.denominator-denominator.ensures.value
+    ∙ first_text quot_down (degree m 0) (degree m 1) (degree m 2) (coefficient m) i j k
+
+pub returns-clause-high : goal.returns-clause-high
+returns-clause-high c =
+    let m = c.args.m.now in
+    λ i j k il jl kl.
+    let below : flat m.degrees i j k < c.loop-index.index = omega (arith, flat_below m.degrees i j k il jl kl, c.terms-index-end.ensures.value, c.loop-index-test.false) in
+    c.loop-index.invariant.3 (flat m.degrees i j k) below
+    ∙ ap neg_ℤ (ap₂ quot_up (c.numerators.ensures.value i j k il jl kl) c.denominator-denominator.ensures.value
+    ∙ first_text quot_up (degree m 0) (degree m 1) (degree m 2) (coefficient m) i j k)

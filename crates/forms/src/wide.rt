@@ -1,0 +1,22 @@
+// A mapping's degrees and coefficients, as the numbers that the forms count with.
+ghost use Rattle.std.specs.Prelude.{◌≡◌, ℕ};
+ghost use Rattle.forms.specs.Arrays.{numbers};
+
+use mapping::mapping::{MOST_TERMS, Mapping};
+
+/// The degree of each input, as wide as an index.
+pub(crate) fn degrees(m: &Mapping) -> [usize; 3]
+    ensures value { result ≡ m.now.degrees }
+{
+    m.degrees.map(usize::from)
+}
+
+/// Puts the coefficients into a table.
+pub(crate) fn widen(m: &Mapping, table: &mut [i64; MOST_TERMS])
+    ensures value { (k : ℕ) → numbers table.new k ≡ numbers m.now.coefficients k }
+{
+    // By index: `map` would make the table a second time, and after `iter_mut` a proof knows no number of a table.
+    for (k, a) in m.coefficients.iter().enumerate() {
+        table[k] = i64::from(*a);
+    }
+}
