@@ -1,9 +1,9 @@
 -- Calls that may be refused: what is known where none of the listed conditions held, and the state after. Assumes nothing.
-use Rattle.std.proofs.Common.{◌≡◌, ℕ, ◌-◌, ◌<◌, ◌≤◌, Bool, true, false, cond, not, ◌||◌, eqb, ltb, List, [], ◌∷◌, length, Some, None, Ok, Err, Option, sym, refl, ap, arith}
+use Rattle.std.proofs.Common.{◌≡◌, ℕ, ◌-◌, ◌<◌, ◌≤◌, Bool, false, not, ◌||◌, eqb, ltb, List, [], ◌∷◌, length, Some, None, Option, refl, arith}
 use Rattle.std.specs.List.{AllByRecursion}
 use Rattle.std.proofs.lemmas.Bool.Decides.{nat_tests}
 use Rattle.mapping.specs.Cells.{depth}
-use Rattle.mapping.specs.Listed.{first_listed, outcome}
+use Rattle.mapping.specs.Listed.{first_listed}
 use Rattle.mapping.specs.declared.mapping.Mapping.{Mapping}
 use Rattle.enquiry.specs.States.{State, region_at}
 use Rattle.enquiry.specs.Steps.{settle, shape_of, halve_refusals, clear_refusals}
@@ -12,11 +12,10 @@ use Rattle.enquiry.specs.declared.refusal.Refusal.{Refusal}
 -- nothing is refused: every condition failed
 pub passed : (cs : List (Bool × Refusal)) → first_listed cs ≡ None → AllByRecursion (λ c. c.0 ≡ false) cs
 passed [] e = tt
-passed (c ∷ cs) e = step c.0 refl e (passed cs)
-  where
-    step : (b : Bool) → c.0 ≡ b → cond b (Some c.1) (first_listed cs) ≡ None → (first_listed cs ≡ None → AllByRecursion (λ d. d.0 ≡ false) cs) → (c.0 ≡ false) × AllByRecursion (λ d. d.0 ≡ false) cs
-    step true h f rest = let z : ◌≡◌ {A = ℕ} 0 1 = cc in absurd (omega arith)
-    step false h f rest = (h, rest f)
+passed (c ∷ cs) e =
+    let here : c.0 ≡ false = grind arith in
+    let rest : first_listed cs ≡ None = grind arith in
+    (here, passed cs rest)
 
 -- a fact of the state before and of the changed state is one of the state after
 pub after_settle : {T : Type 0} (P : State → Type 0) (s : State) (o : Option Refusal) (r : T × State) → P s → (o ≡ None → P r.1) → P (settle s o r).1
@@ -43,17 +42,3 @@ can_halve m s i n e =
 
 pub can_clear : (m : Mapping) (s : State) (i : ℕ) → first_listed (clear_refusals m s i) ≡ None → i < length s.rows
 can_clear m s i e = below _ _ (passed (clear_refusals m s i) e).0
-
--- from what a check answered to what the call comes to
-module _ {T U : Type 0} (s : State) (r : T × State) (x : U) where
-  pub settled_err : (o : Option Refusal) (f : Refusal) → Err f ≡ outcome x o → settle s o r ≡ (Err f, s)
-  settled_err None f e = let z : ◌≡◌ {A = ℕ} 0 1 = cc in absurd (omega arith)
-  settled_err (Some g) f e = let same : f ≡ g = cc in ap (λ h. (Err h, s)) (sym same)
-
-  pub settled_ok : (o : Option Refusal) (y : U) → Ok y ≡ outcome x o → settle s o r ≡ (Ok r.0, r.1)
-  settled_ok None y e = refl
-  settled_ok (Some g) y e = let z : ◌≡◌ {A = ℕ} 0 1 = cc in absurd (omega arith)
-
-pub outcome_none : {U : Type 0} (x y : U) (o : Option Refusal) → Ok y ≡ outcome x o → (o ≡ None) × (y ≡ x)
-outcome_none x y None e = (refl, cc)
-outcome_none x y (Some g) e = let z : ◌≡◌ {A = ℕ} 0 1 = cc in absurd (omega arith)

@@ -1,11 +1,10 @@
 -- The list of open regions under the two changes that calls make: a region becomes two, or leaves. Assumes nothing.
 use Rattle.std.proofs.Common.{◌≡◌, ℕ, ◌+◌, ◌-◌, ◌<◌, ◌⊎◌, List, [], ◌∷◌, ◌++◌, length, get_or, take, set, sym, ap, ◌∙◌, subst, inl, inr, ⊎_elim, arith}
-use Rattle.std.specs.List.{AllByRecursion}
+use Rattle.std.specs.List.{AllByRecursion, swap_remove}
 use Rattle.std.proofs.ByRecursion.{All-get_or, All-set, All-push, All-take}
 use Rattle.std.proofs.lemmas.List.{length-set, length-take, length_push, get_or-set_same, get_or-set_other, get_or_append_left, get_or_push, get_or-take}
 use Rattle.std.proofs.lemmas.Bool.{cases_eq}
 use Rattle.enquiry.specs.States.{no_row}
-use Rattle.enquiry.specs.Steps.{without}
 use Rattle.enquiry.specs.declared.table.Row.{Row}
 
 -- some region has the property
@@ -41,12 +40,12 @@ module _ (P : Row → Type 0) (rows : List Row) (i : ℕ) (l : i < length rows) 
       elsewhere a b j h ne = get_or_append_left (set rows i a) (b ∷ []) no_row j (omega (arith, length-set rows i a)) ∙ get_or-set_other rows i j a no_row ne
 
   -- region i leaves, and the last one takes its number
-  pub all_without : AllByRecursion P rows → AllByRecursion P (without rows i)
+  pub all_without : AllByRecursion P rows → AllByRecursion P (swap_remove rows i no_row)
   all_without all =
       All-take P (length rows - 1) (set rows i (get_or rows (length rows - 1) no_row))
       (All-set P rows i (get_or rows (length rows - 1) no_row) (All-get_or P rows (length rows - 1) no_row (omega arith) all) all)
 
-  pub some_without : SomeRow P rows → P (get_or rows i no_row) ⊎ SomeRow P (without rows i)
+  pub some_without : SomeRow P rows → P (get_or rows i no_row) ⊎ SomeRow P (swap_remove rows i no_row)
   some_without (k, h, p) =
       ⊎_elim
       (λ (e : k ≡ i). inl (subst (λ (j : ℕ). P (get_or rows j no_row)) e p))

@@ -3,13 +3,11 @@
 --     Since m r s        what an earlier report r has settled: every enclosure lies inside its range, leaves means that there is a
 --                        witness, fits means that the ends of r are in the register
 -- Assumes nothing.
-use Rattle.std.proofs.Common.{◌≡◌, ℕ, ◌-◌, ◌<◌, Bool, true, false, cond, length, ℤ, ◌≤ℤ◌, is_some, IfSome, Some, None, Option, unwrap_or, sym, refl, ap, ◌∙◌, subst, ⊎_elim, arith, MatchOption}
+use Rattle.std.proofs.Common.{◌≡◌, ℕ, ◌-◌, ◌<◌, Bool, true, cond, length, ◌≤ℤ◌, is_some, IfSome, Some, None, Option, unwrap_or, sym, refl, ap, ◌∙◌, subst, ⊎_elim, arith, MatchOption}
 use lib.Signed.{≤ℤ_refl}
 use Rattle.std.specs.Int.{int_max, int_min}
 use Rattle.std.specs.List.{AllByRecursion}
 use Rattle.std.proofs.ByRecursion.{All-get_or, All-from_get_or}
-use Rattle.std.proofs.lemmas.Int.{clamps}
-use Rattle.arith.proofs.Ring.{lin}
 use Rattle.mapping.specs.Listed.{first_listed}
 use Rattle.mapping.specs.Points.{Point, Rational}
 use Rattle.mapping.specs.declared.cell.Cell.{Cell}
@@ -19,14 +17,14 @@ use Rattle.enquiry.specs.Honest.{Outside, Encloses, Inside, LowNear, HighNear, F
 use Rattle.enquiry.specs.InRegister.{InRegister, wholly_in}
 use Rattle.enquiry.specs.CellOf.{cell_of}
 use Rattle.enquiry.specs.Corners.{witness_point}
-use Rattle.enquiry.specs.States.{State, no_row, no_answer, region_at, answer_of, hull}
+use Rattle.enquiry.specs.States.{State, no_row, no_answer, region_at, hull}
 use Rattle.enquiry.specs.Steps.{half_row, halved, halve_refusals, halve, cleared_of, clear_refusals, clear, first_witness, probed, probe_refusals, probe, verdict_on, report}
 use Rattle.enquiry.specs.declared.report.Report.{Report}
 use Rattle.enquiry.specs.declared.report.Verdict.{Verdict}
 use Rattle.enquiry.specs.declared.report.Verdict.TheVariants.{Fits, Leaves, Open}
 use Rattle.enquiry.specs.declared.witness.Witness.{Witness}
 use Rattle.enquiry.proofs.Register.{in_from_ends, in_narrower}
-use Rattle.enquiry.proofs.Hulls.{on_all, Between, between_left, between_right, Holds, holds_left, holds_right, held_join, Near, near_join, hull_all, hull_cleared, hull_row, at_value, at_value_all}
+use Rattle.enquiry.proofs.Hulls.{ends, on_all, Between, between_left, between_right, Holds, holds_left, holds_right, held_join, Near, near_join, hull_all, hull_cleared, hull_row, at_value, at_value_all}
 use Rattle.enquiry.proofs.Regions.{SomeRow, all_halved, all_without}
 use Rattle.enquiry.proofs.Refused.{after_settle, can_halve, can_clear}
 use Rattle.enquiry.proofs.Sound.{Holding, Sound}
@@ -42,31 +40,23 @@ abbrev pub range_of : Report → Answer
 range_of r = record { low = r.low; high = r.high; slack = r.slack }
 
 pub record Since (m : Mapping) (r : Report) (s : State) : Type 0 where
-  pub rows_inside : AllByRecursion (λ x. Holds (range_of r) (answer_of x)) s.rows
+  pub rows_inside : AllByRecursion (λ x. Holds (range_of r) x.answer) s.rows
   pub cleared_inside : IfSome s.cleared (Holds (range_of r))
   pub leaves : r.verdict ≡ Leaves → is_some s.witness ≡ true
   pub fits : r.verdict ≡ Fits → wholly_in m r.low r.high ≡ true
 
 -- what a verdict tells
 fits_told : (m : Mapping) (a : Answer) (w : Option Witness) → verdict_on m a w ≡ Fits → wholly_in m a.low a.high ≡ true
-fits_told m a (Some w) e = let z : ◌≡◌ {A = ℕ} 0 1 = cc in absurd (omega arith)
-fits_told m a None e = step (wholly_in m a.low a.high) e
-  where
-    step : (b : Bool) → cond b Fits Open ≡ Fits → b ≡ true
-    step true f = refl
-    step false f = let z : ◌≡◌ {A = ℕ} 0 1 = cc in absurd (omega arith)
+fits_told m a (Some w) e = absurd (cc)
+fits_told m a None e = grind arith
 
 leaves_told : (m : Mapping) (a : Answer) (w : Option Witness) → verdict_on m a w ≡ Leaves → is_some w ≡ true
 leaves_told m a (Some w) e = refl
-leaves_told m a None e = step (wholly_in m a.low a.high) e
-  where
-    step : (b : Bool) → cond b Fits Open ≡ Leaves → is_some {T = Witness} None ≡ true
-    step true f = let z : ◌≡◌ {A = ℕ} 0 1 = cc in absurd (omega arith)
-    step false f = let z : ◌≡◌ {A = ℕ} 0 1 = cc in absurd (omega arith)
+leaves_told m a None e = grind arith
 
 witness_point_of : (m : Mapping) (w : Option Witness) → is_some w ≡ true → IfSome w (Outside m) → (p : Point) × Rational p × (InRegister m p → ⊥)
 witness_point_of m (Some w) e h = (witness_point w, h.0, h.1)
-witness_point_of m None e h = let z : ◌≡◌ {A = ℕ} 0 1 = cc in absurd (omega arith)
+witness_point_of m None e h = absurd (cc)
 
 -- a point at which all is covered: the origin
 abbrev origin : Point
@@ -110,8 +100,8 @@ module _ (m : Mapping) (s : State) (ok : Sound m s) where
   pub since_report : Since m (report m s) s
   unfolding report
   since_report = record {
-    rows_inside = All-from_get_or (λ x. Holds (unwrap_or (hull s) no_answer) (answer_of x)) s.rows no_row (λ k l.
-        let b = answer_of (region_at s k) in
+    rows_inside = All-from_get_or (λ x. Holds (unwrap_or (hull s) no_answer) x.answer) s.rows no_row (λ k l.
+        let b = (region_at s k).answer in
         at_value (λ a. Holds a b) (hull s) no_answer
         (hull_row (λ a. Holds a b) (holds_left b) (holds_right b) s k l (≤ℤ_refl b.low, ≤ℤ_refl b.high)));
     cleared_inside = cleared_held s.cleared refl;
@@ -140,7 +130,7 @@ module _ (m : Mapping) (s : State) (ok : Sound m s) where
 
     settled_leaves : (w : Option Witness) → is_some w ≡ true → verdict_on m (unwrap_or (hull s) no_answer) w ≡ Leaves
     settled_leaves (Some w) e = refl
-    settled_leaves None e = let z : ◌≡◌ {A = ℕ} 0 1 = cc in absurd (omega arith)
+    settled_leaves None e = absurd (cc)
 
     pub later_settled : Settled r (report m s)
     unfolding report
@@ -152,19 +142,13 @@ module _ (m : Mapping) (s : State) (ok : Sound m s) where
         step Open e = absurd (closed e)
 
 -- calls keep what was settled
-tighter_low : (z x y : ℤ) → z ≤ℤ x → z ≤ℤ int_max x y
-tighter_low z x y h = omega (arith, lin, clamps)
-
-tighter_high : (z x y : ℤ) → x ≤ℤ z → int_min x y ≤ℤ z
-tighter_high z x y h = omega (arith, lin, clamps)
-
 module _ (m : Mapping) (r : Report) (s : State) (since : Since m r s) where
   pub halve_since : (ask : Mapping → Cell → Answer) (i n : ℕ) → Since m r (halve ask m s i n).1
   unfolding halve
   halve_since ask i n =
       after_settle (Since m r) s (first_listed (halve_refusals m s i n)) (length (halved ask m s i n).rows, halved ask m s i n) since
       (λ e. record {
-        rows_inside = all_halved (λ x. Holds (range_of r) (answer_of x)) s.rows i (can_halve m s i n e).there _ _
+        rows_inside = all_halved (λ x. Holds (range_of r) x.answer) s.rows i (can_halve m s i n e).there _ _
             (inside (half_ask 0) (can_halve m s i n e).there) (inside (half_ask 1) (can_halve m s i n e).there) since.rows_inside;
         cleared_inside = since.cleared_inside;
         leaves = since.leaves;
@@ -174,10 +158,10 @@ module _ (m : Mapping) (r : Report) (s : State) (since : Since m r s) where
       half_ask : ℕ → Answer
       half_ask side = ask m (cell_of (half_row ask m (region_at s i) (n - 1) side).shape)
 
-      inside : (a : Answer) → i < length s.rows → (r.low ≤ℤ int_max (region_at s i).low a.low) × (int_min (region_at s i).high a.high ≤ℤ r.high)
+      inside : (a : Answer) → i < length s.rows → (r.low ≤ℤ int_max (region_at s i).answer.low a.low) × (int_min (region_at s i).answer.high a.high ≤ℤ r.high)
       inside a l =
-          let h = All-get_or (λ x. Holds (range_of r) (answer_of x)) s.rows i no_row l since.rows_inside in
-          (tighter_low r.low (region_at s i).low a.low h.0, tighter_high r.high (region_at s i).high a.high h.1)
+          let h = All-get_or (λ x. Holds (range_of r) x.answer) s.rows i no_row l since.rows_inside in
+          (omega ends, omega ends)
 
   pub clear_since : (i : ℕ) → Since m r (clear m s i).1
   unfolding clear
@@ -186,16 +170,16 @@ module _ (m : Mapping) (r : Report) (s : State) (since : Since m r s) where
       (λ e.
       let l = can_clear m s i e in
       record {
-        rows_inside = all_without (λ x. Holds (range_of r) (answer_of x)) s.rows i l since.rows_inside;
-        cleared_inside = on_all (Holds (range_of r)) (held_join (range_of r)) s.cleared (answer_of (region_at s i)) since.cleared_inside
-            (All-get_or (λ x. Holds (range_of r) (answer_of x)) s.rows i no_row l since.rows_inside);
+        rows_inside = all_without (λ x. Holds (range_of r) x.answer) s.rows i l since.rows_inside;
+        cleared_inside = on_all (Holds (range_of r)) (held_join (range_of r)) s.cleared (region_at s i).answer since.cleared_inside
+            (All-get_or (λ x. Holds (range_of r) x.answer) s.rows i no_row l since.rows_inside);
         leaves = since.leaves;
         fits = since.fits;
       })
 
   still_some : (out : Bool) (old : Option Witness) (new : Witness) → is_some old ≡ true → is_some (first_witness out old new) ≡ true
   still_some out (Some w) new e = refl
-  still_some out None new e = let z : ◌≡◌ {A = ℕ} 0 1 = cc in absurd (omega arith)
+  still_some out None new e = absurd (cc)
 
   pub probe_since : (i k : ℕ) → Since m r (probe m s i k).1
   unfolding probe

@@ -3,14 +3,12 @@
 --     Sound m s          every rational point is covered, every region is within the limits, every region and the cleared hull is
 --                        near at both ends within its own slack, and the witness is outside
 -- Assumes nothing.
-use Rattle.std.proofs.Common.{◌≡◌, ℕ, ◌-◌, ◌<◌, Bool, true, false, ◌⊎◌, length, ℤ, ◌+ℤ◌, ◌-ℤ◌, ◌≤ℤ◌, IfSome, Some, None, Option, sym, refl, subst, inl, inr, ⊎_elim, arith, MatchOption}
+use Rattle.std.proofs.Common.{◌≡◌, ℕ, ◌-◌, ◌<◌, Bool, true, false, ◌⊎◌, length, ℤ, ◌+ℤ◌, ◌-ℤ◌, IfSome, Some, None, Option, sym, refl, subst, inl, inr, ⊎_elim, arith, MatchOption}
 use lib.Signed.{lt_z}
 use Rattle.std.specs.Int.{int_max, int_min}
-use Rattle.std.specs.List.{AllByRecursion}
+use Rattle.std.specs.List.{AllByRecursion, swap_remove}
 use Rattle.std.proofs.ByRecursion.{All-get_or}
-use Rattle.std.proofs.lemmas.Int.{clamps}
 use Rattle.std.proofs.lemmas.Bool.{cond_both}
-use Rattle.arith.proofs.Ring.{lin}
 use Rattle.mapping.specs.Cells.{depth, Valid, box, half}
 use Rattle.mapping.specs.Listed.{first_listed}
 use Rattle.mapping.specs.Points.{Point, Rational, In}
@@ -28,20 +26,20 @@ use Rattle.enquiry.specs.CellOf.{cell_of}
 use Rattle.forms.specs.Nested.{corner_point}
 use Rattle.enquiry.specs.Corners.{witness_at}
 use Rattle.forms.specs.Nested.{corner_ends}
-use Rattle.enquiry.specs.States.{State, no_row, region_at, answer_of, opened}
-use Rattle.enquiry.specs.Steps.{shape_of, half_row, halved, halve_refusals, halve, without, cleared_of, clear_refusals, clear, first_witness, probed, probe_refusals, probe}
+use Rattle.enquiry.specs.States.{State, no_row, region_at, opened}
+use Rattle.enquiry.specs.Steps.{shape_of, half_row, halved, halve_refusals, halve, cleared_of, clear_refusals, clear, first_witness, probed, probe_refusals, probe}
 use Rattle.enquiry.specs.declared.table.Row.{Row}
 use Rattle.enquiry.specs.declared.witness.Witness.{Witness}
 use Rattle.enquiry.proofs.Register.{out_from_ends}
 use Rattle.enquiry.proofs.Cells.{cell_of_valid, box_valid, in_box}
 use Rattle.forms.specs.Corners.{corner_rational}
 use Rattle.enquiry.proofs.Corners.{corner_holds, witness_rational, witness_held}
-use Rattle.enquiry.proofs.Hulls.{on_all, on_left, on_right, Between, between_left, between_right, Near, near_join}
+use Rattle.enquiry.proofs.Hulls.{ends, on_all, on_left, on_right, Between, between_left, between_right, Near, near_join}
 use Rattle.enquiry.proofs.Regions.{SomeRow, all_halved, some_halved, all_without, some_without}
 use Rattle.enquiry.proofs.Refused.{after_settle, can_halve, can_clear}
 
 abbrev pub Holding : Mapping → Point → Row → Type 0
-Holding m p r = In p r.shape × Between m p (answer_of r)
+Holding m p r = In p r.shape × Between m p r.answer
 
 abbrev pub Covered : Mapping → Point → State → Type 0
 Covered m p s = MatchOption s.cleared ⊥ (Between m p) ⊎ SomeRow (Holding m p) s.rows
@@ -49,7 +47,7 @@ Covered m p s = MatchOption s.cleared ⊥ (Between m p) ⊎ SomeRow (Holding m p
 pub record Sound (m : Mapping) (s : State) : Type 0 where
   pub covered : (p : Point) → Rational p → Covered m p s
   pub valid : AllByRecursion (λ r. Valid r.shape) s.rows
-  pub near : AllByRecursion (λ r. Near m (answer_of r)) s.rows
+  pub near : AllByRecursion (λ r. Near m r.answer) s.rows
   pub cleared_near : IfSome s.cleared (Near m)
   pub outside : IfSome s.witness (Outside m)
 
@@ -61,12 +59,6 @@ at_least_max m p x y a b =
 at_most_min : (m : Mapping) (p : Point) (x y : ℤ) → AtMost m p x → AtMost m p y → AtMost m p (int_min x y)
 at_most_min m p x y a b =
     cond_both (lt_z y x) y x (AtMost m p) (λ e. b) (λ e. a)
-
-max_near : (l k s : ℤ) → (k +ℤ s) ≤ℤ (int_max l k +ℤ s)
-max_near l k s = omega (arith, lin, clamps)
-
-min_near : (l k s : ℤ) → (int_min l k -ℤ s) ≤ℤ (k -ℤ s)
-min_near l k s = omega (arith, lin, clamps)
 
 module _ (ask : Mapping → Cell → Answer) (rules : Rules ask) (m : Mapping) where
   -- a form's answer over the cell of a shape within the limits
@@ -96,18 +88,18 @@ module _ (ask : Mapping → Cell → Answer) (rules : Rules ask) (m : Mapping) w
     half_row_valid : Valid (half_row ask m r v side).shape
     half_row_valid = half_valid (shape_of r) v side (subst Valid (sym (cell_of_valid r.shape ok)) ok) lv ls shallow
 
-    half_row_between : (p : Point) → Rational p → In p (half (shape_of r) v side) → Between m p (answer_of r) → Holding m p (half_row ask m r v side)
+    half_row_between : (p : Point) → Rational p → In p (half (shape_of r) v side) → Between m p r.answer → Holding m p (half_row ask m r v side)
     half_row_between p q i b =
         let a = answer_between (half (shape_of r) v side) p half_row_valid q i in
         (i, (at_least_max m p _ _ b.0 a.0, at_most_min m p _ _ b.1 a.1))
 
-    half_row_near : Near m (answer_of (half_row ask m r v side))
+    half_row_near : Near m (half_row ask m r v side).answer
     half_row_near =
         let n = answer_near (half (shape_of r) v side) in
         let a = ask m (cell_of (half (shape_of r) v side)) in
         record {
-          low = (n.low.0, n.low.1, at_most_weaker m n.low.0 _ _ (max_near r.low a.low a.slack) n.low.2);
-          high = (n.high.0, n.high.1, at_least_weaker m n.high.0 _ _ (min_near r.high a.high a.slack) n.high.2);
+          low = (n.low.0, n.low.1, at_most_weaker m n.low.0 (a.low +ℤ a.slack) (int_max r.answer.low a.low +ℤ a.slack) (omega ends) n.low.2);
+          high = (n.high.0, n.high.1, at_least_weaker m n.high.0 (int_min r.answer.high a.high -ℤ a.slack) (a.high -ℤ a.slack) (omega ends) n.high.2);
         }
 
   halved_sound : (s : State) (i n : ℕ) → Sound m s → i < length s.rows → n - 1 < 3 → depth (shape_of (region_at s i)) (n - 1) < 10 → Sound m (halved ask m s i n)
@@ -129,7 +121,7 @@ module _ (ask : Mapping → Cell → Answer) (rules : Rules ask) (m : Mapping) w
             c))
             (ok.covered p q);
         valid = all_halved (λ x. Valid x.shape) s.rows i l low high (half_row_valid r (n - 1) 0 valid lv (omega arith) shallow) (half_row_valid r (n - 1) 1 valid lv (omega arith) shallow) ok.valid;
-        near = all_halved (λ x. Near m (answer_of x)) s.rows i l low high (half_row_near r (n - 1) 0 valid lv (omega arith) shallow) (half_row_near r (n - 1) 1 valid lv (omega arith) shallow) ok.near;
+        near = all_halved (λ x. Near m x.answer) s.rows i l low high (half_row_near r (n - 1) 0 valid lv (omega arith) shallow) (half_row_near r (n - 1) 1 valid lv (omega arith) shallow) ok.near;
         cleared_near = ok.cleared_near;
         outside = ok.outside;
       }
@@ -146,16 +138,16 @@ cleared_sound : (m : Mapping) (s : State) (i : ℕ) → Sound m s → i < length
 cleared_sound m s i ok l = record {
   covered = λ p q.
       ⊎_elim
-      (λ (h : MatchOption s.cleared ⊥ (Between m p)). inl (on_left (Between m p) (between_left m p) s.cleared (answer_of (region_at s i)) h))
+      (λ (h : MatchOption s.cleared ⊥ (Between m p)). inl (on_left (Between m p) (between_left m p) s.cleared (region_at s i).answer h))
       (λ (c : SomeRow (Holding m p) s.rows).
       ⊎_elim
-      (λ (h : Holding m p (region_at s i)). inl (on_right (Between m p) (between_right m p) s.cleared (answer_of (region_at s i)) h.1))
-      (λ (h : SomeRow (Holding m p) (without s.rows i)). inr h)
+      (λ (h : Holding m p (region_at s i)). inl (on_right (Between m p) (between_right m p) s.cleared (region_at s i).answer h.1))
+      (λ (h : SomeRow (Holding m p) (swap_remove s.rows i no_row)). inr h)
       (some_without (Holding m p) s.rows i l c))
       (ok.covered p q);
   valid = all_without (λ x. Valid x.shape) s.rows i l ok.valid;
-  near = all_without (λ x. Near m (answer_of x)) s.rows i l ok.near;
-  cleared_near = on_all (Near m) (near_join m) s.cleared (answer_of (region_at s i)) ok.cleared_near (All-get_or (λ x. Near m (answer_of x)) s.rows i no_row l ok.near);
+  near = all_without (λ x. Near m x.answer) s.rows i l ok.near;
+  cleared_near = on_all (Near m) (near_join m) s.cleared (region_at s i).answer ok.cleared_near (All-get_or (λ x. Near m x.answer) s.rows i no_row l ok.near);
   outside = ok.outside;
 }
 

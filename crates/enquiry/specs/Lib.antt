@@ -8,3 +8,4 @@ pub mod Runs
 pub mod Honest
 pub mod Views
 pub mod Transcripts
+pub mod Printed

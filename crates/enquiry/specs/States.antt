@@ -3,7 +3,6 @@
 --     row_of s a         the region with this shape and a form's answer
 --     no_answer, no_row  what stands where there is none
 --     region_at s i      the open region with number i, counted from 0
---     answer_of r        the enclosure and the slack of a region
 --     join x y           the hull of two enclosures, and the larger slack
 --     join_on h a        the same, onto what there may be
 --     join_rows h rows   the same, one region after the other
@@ -27,7 +26,7 @@ pub record State : Type 0 where
   pub witness : Option Witness
 
 abbrev pub row_of : Shape → Answer → Row
-row_of s a = record { shape = s; low = a.low; high = a.high; slack = a.slack }
+row_of s a = record { shape = s; answer = a }
 
 abbrev pub no_answer : Answer
 no_answer = record { low = pos 0; high = pos 0; slack = pos 0 }
@@ -38,9 +37,6 @@ no_row = row_of box no_answer
 abbrev pub region_at : State → ℕ → Row
 region_at s i = slice_index_or s.rows i no_row
 
-abbrev pub answer_of : Row → Answer
-answer_of r = record { low = r.low; high = r.high; slack = r.slack }
-
 abbrev pub join : Answer → Answer → Answer
 join x y = record { low = int_min x.low y.low; high = int_max x.high y.high; slack = int_max x.slack y.slack }
 
@@ -49,7 +45,7 @@ join_on None a = Some a
 join_on (Some h) a = Some (join h a)
 
 abbrev pub join_rows : Option Answer → List Row → Option Answer
-join_rows h rows = fold (λ g r. join_on g (answer_of r)) h rows
+join_rows h rows = fold (λ g r. join_on g r.answer) h rows
 
 unfoldable pub hull : State → Option Answer
 hull s = join_rows s.cleared s.rows

@@ -7,8 +7,7 @@
 --     half_row ask m r v side    the lower half (side 0) or the upper half (side 1) of a region along an input, counted from 0
 --     halved ask m s i n the lower half of region i along input n in its place, the upper half at the end
 --     halve ask m s i n  halves region i along input n, and answers how many regions are open
---     without rows i     the regions without region i: the last one takes its number
---     cleared_of s i     region i leaves, and joins the cleared hull
+--     cleared_of s i     region i leaves, the last one takes its number, and region i joins the cleared hull
 --     clear m s i        clears region i, and answers how many regions are open
 --     first_witness o w n    the witness w there is, else the new one n where o says so
 --     probed m s i k     the ends at corner k of region i; where they lie wholly outside the register and there is no witness, the
@@ -22,8 +21,9 @@
 --     last_report c      the report of a closed enquiry
 --     halve_refusals .., clear_refusals .., probe_refusals ..    the refusals of a call, each with its condition, in their order
 -- Assumes nothing.
-use Rattle.std.specs.Prelude.{ℕ, ◌-◌, ◌^◌, Bool, cond, not, ◌||◌, List, [], ◌∷◌, ◌++◌, length, take, ℤ, Some, None, Ok, Err, Option, Result, ◌==◌, nat_lt, slice_index_or, slice_set}
+use Rattle.std.specs.Prelude.{ℕ, ◌-◌, ◌^◌, Bool, cond, not, ◌||◌, List, [], ◌∷◌, ◌++◌, length, ℤ, Some, None, Ok, Err, Option, Result, ◌==◌, nat_lt, slice_set}
 use Rattle.std.specs.Int.{int_max, int_min}
+use Rattle.std.specs.List.{swap_remove}
 use Rattle.std.specs.Option.{unwrap_or}
 use Rattle.mapping.specs.Cells.{depth, half}
 use Rattle.mapping.specs.Listed.{first_listed}
@@ -35,7 +35,7 @@ use Rattle.enquiry.specs.InRegister.{wholly_in, wholly_out}
 use Rattle.enquiry.specs.CellOf.{cell_of}
 use Rattle.enquiry.specs.Corners.{witness_at}
 use Rattle.forms.specs.Nested.{corner_ends}
-use Rattle.enquiry.specs.States.{State, no_row, no_answer, region_at, answer_of, join_on, hull}
+use Rattle.enquiry.specs.States.{State, row_of, no_row, no_answer, region_at, join_on, hull}
 use Rattle.enquiry.specs.declared.closed.Closed.{Closed}
 use Rattle.enquiry.specs.declared.closed.Closed.TheVariants.{Without, With}
 use Rattle.enquiry.specs.declared.refusal.Refusal.{Refusal}
@@ -62,7 +62,7 @@ found s i = cond (no_region s i) (Err NoRegion) (Ok (region_at s i))
 -- halve
 
 abbrev pub tightened : Row → Shape → Answer → Row
-tightened r s a = record { shape = s; low = int_max r.low a.low; high = int_min r.high a.high; slack = a.slack }
+tightened r s a = row_of s (record { low = int_max r.answer.low a.low; high = int_min r.answer.high a.high; slack = a.slack })
 
 abbrev pub half_row : (Mapping → Cell → Answer) → Mapping → Row → ℕ → ℕ → Row
 half_row ask m r v side = tightened r (half (shape_of r) v side) (ask m (cell_of (half (shape_of r) v side)))
@@ -87,20 +87,17 @@ halve ask m s i n = let after = halved ask m s i n in settle s (first_listed (ha
 
 -- clear
 
-abbrev pub without : List Row → ℕ → List Row
-without rows i = take (length rows - 1) (slice_set rows i (slice_index_or rows (length rows - 1) no_row))
-
 abbrev pub cleared_of : State → ℕ → State
 cleared_of s i = record {
-  rows = without s.rows i;
-  cleared = join_on s.cleared (answer_of (region_at s i));
+  rows = swap_remove s.rows i no_row;
+  cleared = join_on s.cleared (region_at s i).answer;
   witness = s.witness;
 }
 
 abbrev pub clear_refusals : Mapping → State → ℕ → List (Bool × Refusal)
 clear_refusals m s i =
     (no_region s i, NoRegion)
-    ∷ ((not (wholly_in m (region_at s i).low (region_at s i).high), NotWithin)
+    ∷ ((not (wholly_in m (region_at s i).answer.low (region_at s i).answer.high), NotWithin)
     ∷ [])
 
 unfoldable pub clear : Mapping → State → ℕ → Result ℕ Refusal × State

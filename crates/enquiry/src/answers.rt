@@ -1,6 +1,6 @@
-// Rows from answers, and answers from rows.
+// Hulls of answers, and the tighter of two.
 ghost use Rattle.std.specs.Prelude.{◌≡◌};
-ghost use Rattle.enquiry.specs.States.{row_of, answer_of, join, join_on};
+ghost use Rattle.enquiry.specs.States.{join, join_on};
 ghost use Rattle.enquiry.specs.Steps.{tightened};
 
 use crate::table::Row;
@@ -15,38 +15,17 @@ pub(crate) const NO_ANSWER: Answer = Answer {
 };
 
 impl Row {
-    /// The region with this shape and a form's answer.
-    pub(crate) fn new(shape: Shape, answer: Answer) -> Row
-        ensures value { result ≡ row_of shape answer }
-    {
-        Row {
-            shape,
-            low: answer.low,
-            high: answer.high,
-            slack: answer.slack,
-        }
-    }
-
     /// A part of the region: the tighter end of its own and the form's on each side, and the form's slack.
     pub(crate) fn tightened(self, shape: Shape, part: Answer) -> Row
         ensures value { result ≡ tightened self shape part }
     {
         Row {
             shape,
-            low: self.low.max(part.low),
-            high: self.high.min(part.high),
-            slack: part.slack,
-        }
-    }
-
-    /// The enclosure and the slack.
-    pub(crate) fn answer(self) -> Answer
-        ensures value { result ≡ answer_of self }
-    {
-        Answer {
-            low: self.low,
-            high: self.high,
-            slack: self.slack,
+            answer: Answer {
+                low: self.answer.low.max(part.low),
+                high: self.answer.high.min(part.high),
+                slack: part.slack,
+            },
         }
     }
 }
@@ -66,8 +45,5 @@ fn hull_of(first: Answer, second: Answer) -> Answer
 pub(crate) fn join_on(hull: Option<Answer>, answer: Answer) -> Option<Answer>
     ensures value { result ≡ join_on hull answer }
 {
-    match hull {
-        None => Some(answer),
-        Some(before) => Some(hull_of(before, answer)),
-    }
+    Some(hull.map_or(answer, |before| hull_of(before, answer)))
 }

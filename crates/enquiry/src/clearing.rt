@@ -3,7 +3,7 @@ ghost use Rattle.std.specs.Prelude.{◌≡◌};
 ghost use Rattle.mapping.specs.Listed.{first_listed, outcome};
 ghost use Rattle.enquiry.specs.States.{region_at};
 ghost use Rattle.enquiry.specs.Steps.{found, clear_refusals, clear};
-ghost use Rattle.enquiry.specs.Views.{view};
+ghost use Rattle.enquiry.specs.Views.{view, enquiry_of};
 
 use crate::answers::join_on;
 use crate::enquiry::Enquiry;
@@ -17,10 +17,7 @@ impl<F: Form> Enquiry<F> {
     pub(crate) fn find(&self, region: u8) -> Result<Row, Refusal>
         ensures value { result ≡ found (view self.now) region }
     {
-        match self.table.get(region as usize) {
-            Some(row) => Ok(row),
-            None => Err(Refusal::NoRegion),
-        }
+        self.table.get(usize::from(region)).ok_or(Refusal::NoRegion)
     }
 
     /// The region that is to be cleared, or the refusal.
@@ -28,7 +25,7 @@ impl<F: Form> Enquiry<F> {
         ensures value { result ≡ outcome (region_at (view self.now) region) (first_listed (clear_refusals self.now.mapping (view self.now) region)) }
     {
         let row = self.find(region)?;
-        if wholly_in(&self.mapping, row.low, row.high) {
+        if wholly_in(&self.mapping, row.answer) {
             Ok(row)
         } else {
             Err(Refusal::NotWithin)
@@ -37,14 +34,14 @@ impl<F: Form> Enquiry<F> {
 
     /// Clears a region whose enclosure is wholly in the register: it leaves, and joins the cleared hull. The last
     /// region takes its number. Answers how many regions are open. Refuses 21 and 25.
+    #[tactic(auto, unfolding(crate::specs::Steps::clear))]
     pub fn clear(&mut self, region: u8) -> Result<usize, Refusal>
         ensures value { result ≡ (clear self.old.mapping (view self.old) region).0 }
-        ensures after { view self.new ≡ (clear self.old.mapping (view self.old) region).1 }
-        ensures same { (self.new.form ≡ self.old.form) × (self.new.mapping ≡ self.old.mapping) }
+        ensures after { self.new ≡ enquiry_of self.old.form self.old.mapping (clear self.old.mapping (view self.old) region).1 }
     {
         let row = self.may_clear(region)?;
-        self.cleared = join_on(self.cleared, row.answer());
-        self.table.remove(region as usize);
+        self.cleared = join_on(self.cleared, row.answer);
+        self.table.remove(usize::from(region));
         Ok(self.table.len())
     }
 }

@@ -4,7 +4,7 @@ ghost use Rattle.enquiry.specs.Honest.{Honest, WitnessTrue};
 ghost use Rattle.enquiry.specs.Runs.{after, reports};
 ghost use Rattle.enquiry.specs.States.{opened};
 ghost use Rattle.enquiry.specs.Steps.{verdict_on, report, close};
-ghost use Rattle.enquiry.specs.Views.{view};
+ghost use Rattle.enquiry.specs.Views.{view, enquiry_of};
 ghost use Rattle.enquiry.specs.declared.call.Call.{Call};
 
 use crate::answers::NO_ANSWER;
@@ -34,14 +34,16 @@ impl<F: Form> Enquiry<F> {
     /// Every list of calls on it, refused ones included, has honest reports, and a witness that it ends with is
     /// outside the register.
     pub fn open(form: F, mapping: Mapping) -> Enquiry<F>
-        ensures value { view result ≡ opened (F.Form.meaning form) mapping }
-        ensures same { (result.form ≡ form) × (result.mapping ≡ mapping) }
+        ensures value { result ≡ enquiry_of form mapping (opened (F.Form.meaning form) mapping) }
         ensures honest { (calls : List Call) → Honest mapping (reports (F.Form.meaning form) mapping calls) }
         ensures witness { (calls : List Call) → WitnessTrue mapping (close mapping (after (F.Form.meaning form) mapping (opened (F.Form.meaning form) mapping) calls)) }
     {
         let cell = Cell::whole();
         let answer = form.ask(&mapping, &cell);
-        let table = Table::new(Row::new(cell.shape, answer));
+        let table = Table::new(Row {
+            shape: cell.shape,
+            answer,
+        });
         Enquiry {
             form,
             mapping,
@@ -53,6 +55,7 @@ impl<F: Form> Enquiry<F> {
 
     /// Reports the least low end, the greatest high end and the largest slack over all regions, open and
     /// cleared, and the verdict. It refuses nothing.
+    #[tactic(auto, using(std::proofs::lemmas::Int::ints), unfolding(crate::specs::Steps::report, crate::specs::States::hull))]
     pub fn report(&self) -> Report
         ensures value { result ≡ report self.now.mapping (view self.now) }
     {
@@ -71,7 +74,7 @@ impl<F: Form> Enquiry<F> {
     {
         if self.witness.is_some() {
             Verdict::Leaves
-        } else if wholly_in(&self.mapping, range.low, range.high) {
+        } else if wholly_in(&self.mapping, range) {
             Verdict::Fits
         } else {
             Verdict::Open
@@ -81,6 +84,7 @@ impl<F: Form> Enquiry<F> {
 
 impl<F: Form + Drop> Enquiry<F> {
     /// Ends the enquiry: the report as it stands, and the witness if there is one.
+    #[tactic(auto, unfolding(crate::specs::Steps::close))]
     pub fn close(self) -> Closed
         ensures value { result ≡ close self.mapping (view self) }
     {

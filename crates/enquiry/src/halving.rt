@@ -4,7 +4,7 @@ ghost use Rattle.mapping.specs.Cells.{Halves};
 ghost use Rattle.mapping.specs.Listed.{first_listed, outcome};
 ghost use Rattle.enquiry.specs.States.{region_at};
 ghost use Rattle.enquiry.specs.Steps.{shape_of, tightened, halve_refusals, halved, halve};
-ghost use Rattle.enquiry.specs.Views.{rows_of, view};
+ghost use Rattle.enquiry.specs.Views.{view, enquiry_of};
 
 use crate::enquiry::Enquiry;
 use crate::refusal::Refusal;
@@ -23,7 +23,7 @@ impl<F: Form> Enquiry<F> {
             return Err(Refusal::NoInput);
         }
         let cell = cell_of(row.shape);
-        if cell.shape.depths[input as usize - 1] >= DEEPEST {
+        if cell.shape.parts[usize::from(input) - 1].depth >= DEEPEST {
             return Err(Refusal::Deepest);
         }
         if self.table.len() >= MOST_REGIONS {
@@ -42,13 +42,12 @@ impl<F: Form> Enquiry<F> {
 
     /// Puts the lower half in the region's place and the upper half at the end.
     fn split(&mut self, region: u8, input: u8)
-        requires there { region < length (rows_of self.old.table) }
+        requires there { region < length self.old.table }
         requires splits { Halves (shape_of (region_at (view self.old) region)) input }
-        requires room { length (rows_of self.old.table) < 64 }
-        ensures after { view self.new ≡ halved (F.Form.meaning self.old.form) self.old.mapping (view self.old) region input }
-        ensures same { (self.new.form ≡ self.old.form) × (self.new.mapping ≡ self.old.mapping) }
+        requires room { length self.old.table < 64 }
+        ensures after { self.new ≡ enquiry_of self.old.form self.old.mapping (halved (F.Form.meaning self.old.form) self.old.mapping (view self.old) region input) }
     {
-        let Some(row) = self.table.get(region as usize) else {
+        let Some(row) = self.table.get(usize::from(region)) else {
             unreachable()
         };
         let Some(halves) = cell_of(row.shape).halves(input) else {
@@ -57,16 +56,16 @@ impl<F: Form> Enquiry<F> {
         let (lower, upper) = halves;
         let first = self.part(row, &lower);
         let second = self.part(row, &upper);
-        self.table.put(region as usize, first);
+        self.table.put(usize::from(region), first);
         self.table.push(second);
     }
 
     /// Halves a region along an input, counted from 1: the lower half takes the region's number, and the upper
     /// half goes to the end. Answers how many regions are open. Refuses 21, 22, 23 and 24.
+    #[tactic(auto, unfolding(crate::specs::Steps::halve))]
     pub fn halve(&mut self, region: u8, input: u8) -> Result<usize, Refusal>
         ensures value { result ≡ (halve (F.Form.meaning self.old.form) self.old.mapping (view self.old) region input).0 }
-        ensures after { view self.new ≡ (halve (F.Form.meaning self.old.form) self.old.mapping (view self.old) region input).1 }
-        ensures same { (self.new.form ≡ self.old.form) × (self.new.mapping ≡ self.old.mapping) }
+        ensures after { self.new ≡ enquiry_of self.old.form self.old.mapping (halve (F.Form.meaning self.old.form) self.old.mapping (view self.old) region input).1 }
     {
         self.may_halve(region, input)?;
         self.split(region, input);

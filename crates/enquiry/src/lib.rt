@@ -11,7 +11,6 @@ mod halving;
 mod probing;
 pub mod refusal;
 pub mod report;
-mod rows;
 pub mod run;
 mod shapes;
 mod table;

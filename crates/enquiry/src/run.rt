@@ -3,7 +3,7 @@ ghost use Rattle.std.specs.Prelude.{◌≡◌, IfOk};
 ghost use Rattle.enquiry.specs.Honest.{Honest, WitnessTrue};
 ghost use Rattle.enquiry.specs.Transcripts.{Transcribed, seen_in};
 ghost use Rattle.enquiry.specs.Runs.{reply};
-ghost use Rattle.enquiry.specs.Views.{view};
+ghost use Rattle.enquiry.specs.Views.{view, enquiry_of};
 
 use crate::call::{Call, Reply};
 use crate::closed::Closed;
@@ -23,24 +23,22 @@ pub struct Transcript {
 
 impl<F: Form> Enquiry<F> {
     /// Takes one call and replies to it. A refused call changes nothing.
+    #[tactic(auto, unfolding(crate::specs::Runs::reply))]
     pub fn answer(&mut self, call: Call) -> Reply
         ensures value { result ≡ (reply (F.Form.meaning self.old.form) self.old.mapping (view self.old) call).0 }
-        ensures after { view self.new ≡ (reply (F.Form.meaning self.old.form) self.old.mapping (view self.old) call).1 }
-        ensures same { (self.new.form ≡ self.old.form) × (self.new.mapping ≡ self.old.mapping) }
+        ensures after { self.new ≡ enquiry_of self.old.form self.old.mapping (reply (F.Form.meaning self.old.form) self.old.mapping (view self.old) call).1 }
     {
+        // By match: a call is what a job's bytes say, and comes as a value.
         match call {
-            Call::Halve(region, input) => match self.halve(region, input) {
-                Ok(count) => Reply::Halved(count),
-                Err(refusal) => Reply::Refused(refusal),
-            },
-            Call::Clear(region) => match self.clear(region) {
-                Ok(count) => Reply::Cleared(count),
-                Err(refusal) => Reply::Refused(refusal),
-            },
-            Call::Probe(region, corner) => match self.probe(region, corner) {
-                Ok((low, high)) => Reply::Probed(low, high),
-                Err(refusal) => Reply::Refused(refusal),
-            },
+            Call::Halve(region, input) => self
+                .halve(region, input)
+                .map_or_else(Reply::Refused, Reply::Halved),
+            Call::Clear(region) => self
+                .clear(region)
+                .map_or_else(Reply::Refused, Reply::Cleared),
+            Call::Probe(region, corner) => self
+                .probe(region, corner)
+                .map_or_else(Reply::Refused, |(low, high)| Reply::Probed(low, high)),
             Call::Report => Reply::Reported(self.report()),
         }
     }

@@ -8,8 +8,5 @@ use mapping::cell::{Cell, Shape};
 pub(crate) fn cell_of(shape: Shape) -> Cell
     ensures value { result ≡ cell_of shape }
 {
-    match Cell::new(shape) {
-        Some(cell) => cell,
-        None => Cell::whole(),
-    }
+    Cell::new(shape).unwrap_or_else(Cell::whole)
 }

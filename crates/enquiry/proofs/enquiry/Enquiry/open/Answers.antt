@@ -1,5 +1,5 @@
-use Rattle.std.proofs.Common.{refl}
-use Rattle.enquiry.specs.Views.{rows_of}
+use Rattle.std.proofs.Common.{ap}
+use Rattle.enquiry.specs.Views.{enquiry_of}
 use Rattle.enquiry.proofs.Promise.{every_run_honest, every_witness_true}
 use Rattle.enquiry.proofs.States.{opened_is}
 use Rattle.enquiry.proofs.enquiry.Enquiry.open.Goals as goal
@@ -8,9 +8,9 @@ pub returns : goal.returns
 returns g c =
     let ask = g.F.Form.meaning c.args.form in
     record {
-      value = opened_is ask c.args.mapping c.whole-cell.result c.ask-answer.result c.new.result (rows_of c.new-table.result)
-          c.whole-cell.ensures.value c.ask-answer.ensures.value c.new.ensures.value c.new-table.ensures.value;
-      same = (refl, refl);
+      value = ap (enquiry_of c.args.form c.args.mapping)
+          (opened_is ask c.args.mapping c.whole-cell.result c.ask-answer.result c.new-table.result
+          c.whole-cell.ensures.value c.ask-answer.ensures.value c.new-table.ensures.value);
       honest = every_run_honest ask (g.met.F.Form.sound c.args.form) c.args.mapping;
       witness = every_witness_true ask (g.met.F.Form.sound c.args.form) c.args.mapping;
     }
