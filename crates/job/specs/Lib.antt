@@ -1,4 +1,5 @@
 pub mod Loading
+pub mod Denials
 pub mod Calls
 pub mod Lines
 pub mod Spelled

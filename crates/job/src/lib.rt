@@ -3,10 +3,10 @@
 
 pub mod answer;
 mod calls;
+pub mod denial;
 pub mod fault;
 pub mod line;
 mod lines;
 pub mod load;
-pub mod numbers;
 pub mod spelling;
 pub mod text;

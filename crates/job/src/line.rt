@@ -1,4 +1,5 @@
 //! The lines that the program prints.
+use crate::denial::Denial;
 use enquiry::report::{Report, Verdict};
 use enquiry::witness::Witness;
 
@@ -13,10 +14,11 @@ pub enum Line {
     Cleared(usize),
     /// The two ends at a corner that was probed.
     Point(i64, i64),
-    /// A refusal, by its number.
-    No(u8),
+    /// A refusal.
+    No(Denial),
     /// The last line, where there is no witness.
     Verdict(Verdict),
     /// The last line, where there is one: the number of inputs, and the witness.
+    // A number beside three fractions: a line is plain numbers, and owns no list.
     Leaves(u8, Witness),
 }

@@ -1,26 +1,26 @@
 //! Replies turned into lines.
-ghost use Rattle.std.specs.Prelude.{◌≡◌, ℕ, ◌≤◌, true, ◌++◌, is_ok};
+ghost use Rattle.std.specs.Prelude.{◌≡◌, ◌++◌, OnOk};
 ghost use Rattle.job.specs.Lines.{line_of, merged, last_line};
 
+use crate::denial::Denial;
 use crate::line::Line;
 use enquiry::call::{Call, Reply};
 use enquiry::closed::Closed;
 use mapping::mapping::Mapping;
 use std::alloc::AllocError;
 
-/// The number of an unknown code, and of a last call cut short.
-const NO_CALL: u8 = 43;
-
 /// The line of a reply.
-fn line_of(reply: Reply) -> Line
-    ensures value { result ≡ line_of reply }
-{
-    match reply {
-        Reply::Halved(count) => Line::Halved(count),
-        Reply::Cleared(count) => Line::Cleared(count),
-        Reply::Probed(low, high) => Line::Point(low, high),
-        Reply::Reported(report) => Line::Range(report),
-        Reply::Refused(refusal) => Line::No(refusal.number()),
+impl From<Reply> for Line {
+    ghost from_gives = { λ reply line. line ≡ line_of reply };
+
+    fn from(reply: Reply) -> Line {
+        match reply {
+            Reply::Halved(count) => Line::Halved(count),
+            Reply::Cleared(count) => Line::Cleared(count),
+            Reply::Probed(low, high) => Line::Point(low, high),
+            Reply::Reported(report) => Line::Range(report),
+            Reply::Refused(refusal) => Line::No(refusal.into()),
+        }
     }
 }
 
@@ -40,20 +40,18 @@ pub(crate) fn add_lines(
     steps: &[Option<Call>],
     replies: &[Reply],
 ) -> Result<(), AllocError>
-    ensures value { is_ok result ≡ true → lines.new.items ≡ lines.old.items ++ merged steps.now replies.now }
+    ensures value { OnOk result (lines.new.items ≡ lines.old.items ++ merged steps.now replies.now) }
 {
-    let mut next = 0;
+    let mut replies = replies.iter();
     for step in steps {
-        match *step {
-            None => lines.push(Line::No(NO_CALL))?,
-            Some(_) => {
-                if next >= replies.len() {
-                    return Ok(());
-                }
-                lines.push(line_of(replies[next]))?;
-                next += 1;
-            }
-        }
+        let line = match step {
+            None => Line::No(Denial::NoCall),
+            Some(_) => match replies.next() {
+                Some(reply) => Line::from(*reply),
+                None => return Ok(()),
+            },
+        };
+        lines.push(line)?;
     }
     Ok(())
 }

@@ -1,5 +1,5 @@
 //! The text of an answer: its lines, each ended by a newline.
-ghost use Rattle.std.specs.Prelude.{◌≡◌, ◌++◌, IfOk, string_bytes};
+ghost use Rattle.std.specs.Prelude.{◌≡◌, IfOk, string_bytes};
 ghost use Rattle.job.specs.Printed.{printed, Text};
 
 use crate::answer::answer;
