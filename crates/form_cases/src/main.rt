@@ -1,5 +1,5 @@
-//! Mappings and cells read from standard input, and what each form answers. A case is two length bytes, a record, a depth for
-//! each input, and a place for each input in two bytes.
+//! Mappings and cells read from standard input, and what each form answers. A case is two length bytes, a record, and the nine bytes
+//! of a cell.
 #![tactic(auto)]
 
 use forms::answer::Answer;
@@ -8,28 +8,12 @@ use forms::form::Form;
 use forms::nested::Nested;
 use forms::pair::Pair;
 use mapping::cell::{Cell, Shape};
+use mapping::framed::split;
 use mapping::mapping::Mapping;
+use mapping::packed::PACKED;
 use mapping::record::read;
 use std::io;
 use std::io::Read;
-
-/// Bytes of a cell.
-const CELL: usize = 9;
-
-/// The cell in nine bytes; none where they are too few or outside the limits.
-fn cell_of(bytes: &[u8]) -> Option<Cell> {
-    let [a, b, c, d, e, f, g, h, i] = bytes else {
-        return None;
-    };
-    Cell::new(Shape {
-        depths: [*a, *b, *c],
-        places: [
-            u16::from_be_bytes([*d, *e]),
-            u16::from_be_bytes([*f, *g]),
-            u16::from_be_bytes([*h, *i]),
-        ],
-    })
-}
 
 /// Prints an answer behind the form's name.
 fn show(rt: &impl Print, name: &str, answer: Answer) -> io::Result<()> {
@@ -38,12 +22,12 @@ fn show(rt: &impl Print, name: &str, answer: Answer) -> io::Result<()> {
 }
 
 /// Asks all forms, one after the other.
-fn ask_all(rt: &impl Print, bytes: &[u8], place: &[u8]) -> io::Result<()> {
+fn ask_all(rt: &impl Print, record: &[u8], cell: [u8; PACKED]) -> io::Result<()> {
     let mut mapping = Mapping::new();
-    if read(bytes, &mut mapping).is_err() {
+    if read(record, &mut mapping).is_err() {
         return println!(rt; "no record");
     }
-    let Some(cell) = cell_of(place) else {
+    let Some(cell) = Cell::new(Shape::from(cell)) else {
         return println!(rt; "no cell");
     };
     show(rt, "nested", Nested.ask(&mapping, &cell))?;
@@ -60,13 +44,12 @@ fn main(rt: HostRuntime) -> anyhow::Result<()> {
     let mut input = Vec::new(heap);
     rt.stdin().read_to_end(&mut input)?;
     let mut rest = input.as_slice();
-    while rest.len() >= 2 {
-        let end = 2 + (rest[0] as usize * 256 + rest[1] as usize);
-        if rest.len() < end + CELL {
+    while let Some((record, next)) = split(rest) {
+        let Some((cell, next)) = next.split_first_chunk::<PACKED>() else {
             break;
-        }
-        ask_all(&rt, &rest[2..end], &rest[end..end + CELL])?;
-        rest = &rest[end + CELL..];
+        };
+        ask_all(&rt, record, *cell)?;
+        rest = next;
     }
     Ok(())
 }

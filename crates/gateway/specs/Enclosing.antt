@@ -1,20 +1,24 @@
 -- Asking a form over a list of cells.
 --     meant f            what a form means
 --     form_of n          the form that a number names: 0 nested, 1 Bernstein, 2 the pair of both
---     pair_at cs i       the two bytes from place i on, as a number
---     shape_at cs k      cell k of the list: 9 bytes, three depths and then three places, two bytes each
+--     shape_at cs k      cell k of the list, in 9 bytes
 --     cells cs           how many cells the list has
 --     Listed cs          whole cells, each within the limits
---     Answers ask cs out       out holds low, high and slack of each cell, one after the other
+--     shape_in ps k      cell k of pieces that have a cell each
+--     Cut cs ps          the pieces have the cells of the list
+--     AnswersOver ask shape n out
+--                        out holds low, high and slack of each of the first n of some cells, one after the other
+--     Answers ask cs out       the same of all cells of the list
 --     Behind n before after    from place n on nothing changed
 --     Enclosed form bs cs before r after
 --                        the first refusal of the record (1 to 7), the form (71), the cells (72) and the room (73), with nothing changed;
 --                        or 0, and the answers of the form for the mapping whose record bs is
 -- Assumes nothing.
-use Rattle.std.specs.Prelude.{◌≡◌, ℕ, zero, suc, ◌+◌, ◌*◌, ◌/◌, ◌%◌, ◌<◌, ◌≤◌, ◌⊎◌, List, [], ◌∷◌, length, get_or, ℤ, pos, Some, None, Option, slice_index, slice_index_or}
+use Rattle.std.specs.Prelude.{◌≡◌, ℕ, zero, suc, ◌+◌, ◌*◌, ◌/◌, ◌%◌, ◌<◌, ◌≤◌, ◌⊎◌, List, [], length, take, drop, get_or, ℤ, pos, Some, None, Option, slice_index_or}
 use Rattle.mapping.specs.Bits.{bits_of}
 use Rattle.mapping.specs.Cells.{Valid}
 use Rattle.mapping.specs.Faults.{record_number}
+use Rattle.mapping.specs.Packed.{unpacked}
 use Rattle.mapping.specs.Records.{record_bits, record_fault}
 use Rattle.mapping.specs.declared.cell.Cell.{Cell}
 use Rattle.mapping.specs.declared.cell.Shape.{Shape}
@@ -38,16 +42,8 @@ form_of (suc zero) = Some Bernstein
 form_of (suc (suc zero)) = Some Both
 form_of (suc (suc (suc n))) = None
 
--- two bytes, the most significant first
-abbrev pub pair_at : List ℕ → ℕ → ℕ
-pair_at cs i = slice_index cs i * 256 + slice_index cs (i + 1)
-
 abbrev pub shape_at : List ℕ → ℕ → Shape
-shape_at cs k =
-    record {
-      depths = slice_index cs (9 * k) ∷ (slice_index cs (9 * k + 1) ∷ (slice_index cs (9 * k + 2) ∷ []));
-      places = pair_at cs (9 * k + 3) ∷ (pair_at cs (9 * k + 5) ∷ (pair_at cs (9 * k + 7) ∷ []));
-    }
+shape_at cs k = unpacked (take 9 (drop (9 * k) cs))
 
 abbrev pub cells : List ℕ → ℕ
 cells cs = length cs / 9
@@ -56,14 +52,25 @@ pub record Listed (cs : List ℕ) : Type 0 where
   pub whole : length cs % 9 ≡ 0
   pub valid : (k : ℕ) → k < cells cs → Valid (shape_at cs k)
 
+abbrev pub shape_in : List (List ℕ) → ℕ → Shape
+shape_in pieces k = unpacked (slice_index_or pieces k [])
+
+pub record Cut (cs : List ℕ) (pieces : List (List ℕ)) : Type 0 where
+  pub listed : Listed cs
+  pub many : length pieces ≡ cells cs
+  pub each : (k : ℕ) → k < cells cs → shape_in pieces k ≡ shape_at cs k
+
 -- low, high and slack stand one after the other from this place on
 pub record Holds (a : Answer) (out : List ℤ) (at : ℕ) : Type 0 where
   pub low : get_or out at (pos 0) ≡ a.low
   pub high : get_or out (at + 1) (pos 0) ≡ a.high
   pub slack : get_or out (at + 2) (pos 0) ≡ a.slack
 
+abbrev pub AnswersOver : (Cell → Answer) → (ℕ → Shape) → ℕ → List ℤ → Type 0
+AnswersOver ask shape n out = (k : ℕ) (c : Cell) → k < n → c.shape ≡ shape k → Holds (ask c) out (3 * k)
+
 abbrev pub Answers : (Cell → Answer) → List ℕ → List ℤ → Type 0
-Answers ask cs out = (k : ℕ) (c : Cell) → k < cells cs → c.shape ≡ shape_at cs k → Holds (ask c) out (3 * k)
+Answers ask cs out = AnswersOver ask (shape_at cs) (cells cs) out
 
 pub record Behind (n : ℕ) (before after : List ℤ) : Type 0 where
   pub size : length after ≡ length before

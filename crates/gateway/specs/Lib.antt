@@ -1,3 +1,5 @@
 pub mod Checked
+pub mod Choices
 pub mod Delivered
 pub mod Enclosing
+pub mod Refused

@@ -14,6 +14,6 @@ pub extern "C" fn rangecheck_record(bytes: &[u8]) -> u32
     let mut mapping = Mapping::new();
     match read(bytes, &mut mapping) {
         Ok(()) => 0,
-        Err(fault) => fault.number() as u32,
+        Err(fault) => u32::from(fault.number()),
     }
 }

@@ -1,98 +1,44 @@
 // A form asked over a list of cells.
-ghost use Rattle.std.specs.Prelude.{◌≡◌, ℕ, ◌+◌, ◌*◌, ◌<◌, ◌≤◌, length, pos, Decides, slice_index_or};
-ghost use Rattle.gateway.specs.Enclosing.{meant, form_of, pair_at, shape_at, cells, Listed, Holds, Answers, Behind, Enclosed};
+ghost use Rattle.std.specs.Prelude.{◌≡◌, ℕ, ◌+◌, ◌*◌, ◌<◌, ◌≤◌, All, Decides, MatchOption, length, pos, slice_index_or};
+ghost use Rattle.mapping.specs.Cells.{Valid};
+ghost use Rattle.mapping.specs.Packed.{unpacked};
+ghost use Rattle.gateway.specs.Enclosing.{shape_in, Listed, Cut, Holds, AnswersOver, Behind, Enclosed};
+ghost use Rattle.gateway.specs.Refused.{enclose_told};
 
 use crate::choice::Choice;
+use crate::fault::EncloseFault;
 use forms::answer::Answer;
-use forms::bernstein::Bernstein;
 use forms::form::Form;
-use forms::nested::Nested;
-use forms::pair::Pair;
 use mapping::cell::{Cell, Shape};
 use mapping::mapping::Mapping;
+use mapping::packed::PACKED;
 use mapping::record::read;
-
-/// A cell in a list: three depths of a byte each, three places of two bytes each, most significant first.
-const CELL: usize = 9;
 
 /// What is written for a cell: low, high and slack.
 const ANSWER: usize = 3;
 
-/// There is no such form.
-const NO_FORM: u32 = 71;
-
-/// The list ends within a cell, or a cell is outside the limits.
-const NO_CELL: u32 = 72;
-
-/// There is no room for all answers.
-const NO_ROOM: u32 = 73;
-
-impl Choice {
-    /// The form of this number.
-    fn new(number: u8) -> Option<Choice>
-        ensures value { result ≡ form_of number }
-    {
-        match number {
-            0 => Some(Choice::Nested),
-            1 => Some(Choice::Bernstein),
-            2 => Some(Choice::Both),
-            _ => None,
-        }
-    }
-
-    /// What the form answers.
-    fn ask(self, m: &Mapping, c: &Cell) -> Answer
-        ensures value { result ≡ meant self m.now c.now }
-    {
-        match self {
-            Choice::Nested => Nested.ask(m, c),
-            Choice::Bernstein => Bernstein.ask(m, c),
-            Choice::Both => Pair {
-                first: Bernstein,
-                second: Nested,
-            }
-            .ask(m, c),
-        }
-    }
+/// Whether nine bytes are a cell, that is, within the limits.
+fn is_cell(bytes: &[u8; PACKED]) -> bool
+    ensures value { Decides result (Valid (unpacked bytes.now)) }
+{
+    Cell::new(Shape::from(*bytes)).is_some()
 }
 
-/// Two bytes, the most significant first.
-fn pair_at(list: &[u8], at: usize) -> u16
-    requires { at + 1 < length list.now }
-    ensures value { result ≡ pair_at list.now at }
+/// Whether each nine bytes are a cell.
+fn are_cells(pieces: &[[u8; PACKED]]) -> bool
+    ensures value { Decides result (All (λ bytes. Valid (unpacked bytes)) pieces.now) }
 {
-    u16::from_be_bytes([list[at], list[at + 1]])
+    pieces.iter().all(is_cell)
 }
 
-/// The shape of cell `k`.
-fn shape_at(list: &[u8], k: usize) -> Shape
-    requires { k < cells list.now }
-    ensures value { result ≡ shape_at list.now k }
+/// The cells of a list; none unless it has whole cells, each within the limits.
+fn cells_of(list: &[u8]) -> Option<&[[u8; PACKED]]>
+    ensures value { MatchOption result (Listed list.now → ⊥) (λ cells. Cut list.now cells.now) }
 {
-    let at = CELL * k;
-    Shape {
-        depths: [list[at], list[at + 1], list[at + 2]],
-        places: [
-            pair_at(list, at + 3),
-            pair_at(list, at + 5),
-            pair_at(list, at + 7),
-        ],
-    }
-}
-
-/// Whether the list has whole cells, each within the limits.
-fn listed(list: &[u8]) -> bool
-    ensures value { Decides result (Listed list.now) }
-{
-    if list.len() % CELL != 0 {
-        return false;
-    }
-    for k in 0..list.len() / CELL {
-        let Some(_) = Cell::new(shape_at(list, k)) else {
-            return false;
-        };
-    }
-    true
+    let (pieces, []) = list.as_chunks::<PACKED>() else {
+        return None;
+    };
+    are_cells(pieces).then_some(pieces)
 }
 
 /// Writes low, high and slack from place `at` on.
@@ -103,45 +49,52 @@ fn put(ends: &mut [i64], at: usize, answer: Answer)
     ensures before { (j : ℕ) → j < at → slice_index_or ends.new j (pos 0) ≡ slice_index_or ends.old j (pos 0) }
     ensures behind { (j : ℕ) → at + 2 < j → slice_index_or ends.new j (pos 0) ≡ slice_index_or ends.old j (pos 0) }
 {
+    // By place, as in `fill`.
     ends[at] = answer.low;
     ends[at + 1] = answer.high;
     ends[at + 2] = answer.slack;
 }
 
-/// Writes the answers over all cells of the list to the first places of `ends`.
-fn fill(choice: Choice, m: &Mapping, list: &[u8], ends: &mut [i64])
-    requires listed { Listed list.now }
-    requires room { 3 * cells list.now ≤ length ends.old }
-    ensures answers { Answers (meant choice m.now) list.now ends.new }
-    ensures behind { Behind (3 * cells list.now) ends.old ends.new }
+/// Writes the answers over all cells to the first places of `ends`.
+fn fill<F: Form>(form: &F, m: &Mapping, cells: &[[u8; PACKED]], ends: &mut [i64])
+    requires valid { (k : ℕ) → k < length cells.now → Valid (shape_in cells.now k) }
+    requires room { 3 * length cells.now ≤ length ends.old }
+    ensures answers { AnswersOver (F.Form.meaning form.now m.now) (shape_in cells.now) (length cells.now) ends.new }
+    ensures behind { Behind (3 * length cells.now) ends.old ends.new }
 {
-    for k in 0..list.len() / CELL {
-        let Some(cell) = Cell::new(shape_at(list, k)) else {
+    // By place: once pieces of `ends` were lent out to be written, no more than its length would be known.
+    for (k, bytes) in cells.iter().enumerate() {
+        let Some(cell) = Cell::new(Shape::from(*bytes)) else {
             unreachable()
         };
-        put(ends, ANSWER * k, choice.ask(m, &cell));
+        put(ends, ANSWER * k, form.ask(m, &cell));
     }
 }
 
-/// Asks a form over each cell of a list, and writes low, high and slack of each to `ends`, one after the other. Gives 0; or the number
-/// of the first refusal, and then no number of `ends` has changed.
+/// Asks a form over each cell of a list, and writes low, high and slack of each to `ends`, one after the other. At a refusal no number of
+/// `ends` has changed.
+fn enclose(form: u8, bytes: &[u8], list: &[u8], ends: &mut [i64]) -> Result<(), EncloseFault>
+    ensures value { Enclosed form bytes.now list.now ends.old (enclose_told result) ends.new }
+{
+    let mut mapping = Mapping::new();
+    read(bytes, &mut mapping)?;
+    // The form comes as its number, since a refusal of the record goes before one of the number.
+    let choice = Choice::try_from(form)?;
+    let cells = cells_of(list).ok_or(EncloseFault::NoCell)?;
+    if ends.len() < ANSWER * cells.len() {
+        return Err(EncloseFault::NoRoom);
+    }
+    fill(&choice, &mapping, cells, ends);
+    Ok(())
+}
+
+/// The same for C: 0, or the number of the first refusal, and then no number of `ends` has changed.
 #[unsafe(no_mangle)]
 pub extern "C" fn rangecheck_enclose(form: u8, bytes: &[u8], list: &[u8], ends: &mut [i64]) -> u32
     ensures value { Enclosed form bytes.now list.now ends.old result ends.new }
 {
-    let mut mapping = Mapping::new();
-    if let Err(fault) = read(bytes, &mut mapping) {
-        return fault.number() as u32;
+    match enclose(form, bytes, list, ends) {
+        Ok(()) => 0,
+        Err(fault) => u32::from(fault.number()),
     }
-    let Some(choice) = Choice::new(form) else {
-        return NO_FORM;
-    };
-    if !listed(list) {
-        return NO_CELL;
-    }
-    if ends.len() < ANSWER * (list.len() / CELL) {
-        return NO_ROOM;
-    }
-    fill(choice, &mapping, list, ends);
-    0
 }

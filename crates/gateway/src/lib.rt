@@ -6,3 +6,4 @@ mod checked;
 mod choice;
 mod delivered;
 mod enclosed;
+mod fault;

@@ -2,6 +2,7 @@
 #![tactic(auto)]
 
 use job::text::respond;
+use mapping::framed::split;
 use std::io::Read;
 
 fn main(rt: HostRuntime) -> anyhow::Result<()> {
@@ -9,14 +10,10 @@ fn main(rt: HostRuntime) -> anyhow::Result<()> {
     let mut input = Vec::new(heap);
     rt.stdin().read_to_end(&mut input)?;
     let mut rest = input.as_slice();
-    while rest.len() >= 2 {
-        let size = rest[0] as usize * 256 + rest[1] as usize;
-        if rest.len() < 2 + size {
-            break;
-        }
-        rt.print(respond(heap, &rest[2..2 + size])?)?;
+    while let Some((job, next)) = split(rest) {
+        rt.print(respond(heap, job)?)?;
         println!(rt; ".")?;
-        rest = &rest[2 + size..];
+        rest = next;
     }
     Ok(())
 }

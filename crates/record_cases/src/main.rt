@@ -1,30 +1,68 @@
 //! Records read from standard input, each behind two length bytes, and what becomes of each.
 #![tactic(auto)]
 
+use mapping::fault::{RecordFault, WriteFault};
+use mapping::framed::split;
 use mapping::mapping::Mapping;
 use mapping::record::read;
 use mapping::writer::write;
+use std::fmt;
 use std::io::Read;
 
-/// What becomes of one record: the refusal's number, or its length and whether it was written back to the same bytes.
-enum Outcome {
-    Refused(u8),
-    Accepted(usize, bool),
+/// A record that was written back, with its length: as the same bytes, or as others.
+#[derive(Clone, Copy)]
+enum Written {
+    Same(usize),
+    Different(usize),
+}
+
+impl fmt::Display for Written {
+    fn fmt<W: fmt::Write>(&self, f: &mut fmt::Formatter<W>) -> fmt::Result {
+        match self {
+            Written::Same(size) => write!(f, "accepted {size} same"),
+            Written::Different(size) => write!(f, "accepted {size} different"),
+        }
+    }
+}
+
+/// Why a record is not written back.
+#[derive(Clone, Copy)]
+enum Fault {
+    Read(RecordFault),
+    Write(WriteFault),
+}
+
+impl From<RecordFault> for Fault {
+    fn from(fault: RecordFault) -> Fault {
+        Fault::Read(fault)
+    }
+}
+
+impl From<WriteFault> for Fault {
+    fn from(fault: WriteFault) -> Fault {
+        Fault::Write(fault)
+    }
+}
+
+impl fmt::Display for Fault {
+    fn fmt<W: fmt::Write>(&self, f: &mut fmt::Formatter<W>) -> fmt::Result {
+        match self {
+            Fault::Read(fault) => write!(f, "no {}", fault.number()),
+            Fault::Write(fault) => write!(f, "no {}", fault.number()),
+        }
+    }
 }
 
 /// Reads a record, and writes it back where it is accepted.
-fn read_and_write(bytes: &[u8]) -> Outcome {
+fn read_and_write(bytes: &[u8]) -> Result<Written, Fault> {
     let mut place = Mapping::new();
-    if let Err(fault) = read(bytes, &mut place) {
-        return Outcome::Refused(fault.number());
-    }
+    read(bytes, &mut place)?;
     let mut buffer = [0xa5; 260];
-    match write(&place, &mut buffer) {
-        Ok(size) => Outcome::Accepted(
-            size,
-            size < 260 && &buffer[0..size] == bytes && buffer[size] == 0xa5,
-        ),
-        Err(fault) => Outcome::Refused(fault.number()),
+    let size = write(&place, &mut buffer)?;
+    if buffer.get(..size) == Some(bytes) && buffer.get(size) == Some(&0xa5) {
+        Ok(Written::Same(size))
+    } else {
+        Ok(Written::Different(size))
     }
 }
 
@@ -33,17 +71,12 @@ fn main(rt: HostRuntime) -> anyhow::Result<()> {
     let mut input = Vec::new(heap);
     rt.stdin().read_to_end(&mut input)?;
     let mut rest = input.as_slice();
-    while rest.len() >= 2 {
-        let size = rest[0] as usize * 256 + rest[1] as usize;
-        if rest.len() < 2 + size {
-            break;
+    while let Some((record, next)) = split(rest) {
+        match read_and_write(record) {
+            Ok(written) => println!(rt; "{written}")?,
+            Err(fault) => println!(rt; "{fault}")?,
         }
-        match read_and_write(&rest[2..2 + size]) {
-            Outcome::Refused(number) => println!(rt; "no {number}")?,
-            Outcome::Accepted(size, true) => println!(rt; "accepted {size} same")?,
-            Outcome::Accepted(size, false) => println!(rt; "accepted {size} different")?,
-        }
-        rest = &rest[2 + size..];
+        rest = next;
     }
     Ok(())
 }

@@ -3,6 +3,8 @@
 
 use enquiry::closed::Closed;
 use enquiry::enquiry::Enquiry;
+use enquiry::report::Report;
+use enquiry::witness::Fraction;
 use forms::bernstein::Bernstein;
 use forms::nested::Nested;
 use forms::pair::Pair;
@@ -16,8 +18,7 @@ const RAMP: [u8; 11] = [0x14, 0x80, 0, 0, 0, 0, 0, 0, 0, 0x01, 0x2c];
 fn main(rt: HostRuntime) -> io::Result<()> {
     let mut ramp = Mapping::new();
     if let Err(fault) = read(&RAMP, &mut ramp) {
-        let number = fault.number();
-        return println!(rt; "no {number}");
+        return println!(rt; "no {}", fault.number());
     }
     let form = Pair {
         first: Bernstein,
@@ -35,9 +36,8 @@ fn main(rt: HostRuntime) -> io::Result<()> {
     // After the close there is no enquiry to halve.
     match closed {
         Closed::With(report, witness) => {
-            let [numerator, _, _] = witness.numerators;
-            let [depth, _, _] = witness.depths;
-            let (low, high) = (report.low, report.high);
+            let [Fraction { numerator, depth }, _, _] = witness.at;
+            let Report { low, high, .. } = report;
             println!(rt; "from {low} to {high}, outside at {numerator} over 2 to the {depth}")
         }
         Closed::Without(_) => println!(rt; "no witness"),

@@ -1,5 +1,5 @@
 use Rattle.std.proofs.Common.{length}
 use Rattle.form_cases.proofs.main.Given as goal
 
-abbrev pub decreases-loop-rest : goal.decreases-loop-rest
-decreases-loop-rest l = length l.rest
+abbrev pub decreases-loop-record : goal.decreases-loop-record
+decreases-loop-record l = length l.rest

@@ -1,5 +1,5 @@
 use Rattle.std.proofs.Common.{length}
 use Rattle.job_cases.proofs.main.Given as goal
 
-abbrev pub decreases-loop-rest : goal.decreases-loop-rest
-decreases-loop-rest l = length l.rest
+abbrev pub decreases-loop-job : goal.decreases-loop-job
+decreases-loop-job l = length l.rest
