@@ -7,6 +7,7 @@ use crate::factor::Factor;
 
 /// The ends of the enclosure from `low` to `high`, times a factor, each rounded outward. The ends are at most 2^47 in size.
 /// Each end of the answer comes from its own alone, so that crossed ends have an answer too.
+// Two numbers and a pair of them, and no type of their own: crossed ends are no enclosure.
 pub fn times(low: i64, high: i64, by: Factor) -> (i64, i64)
     requires low { Tame low }
     requires high { Tame high }

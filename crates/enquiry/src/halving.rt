@@ -15,6 +15,7 @@ use mapping::cell::{Cell, DEEPEST};
 
 impl<F: Form> Enquiry<F> {
     /// Whether the region can be halved, or the refusal.
+    // A region and an input apart: a call's bytes name them, and each is refused for itself.
     fn may_halve(&self, region: u8, input: u8) -> Result<(), Refusal>
         ensures value { result ≡ outcome tt (first_listed (halve_refusals self.now.mapping (view self.now) region input)) }
     {

@@ -64,6 +64,7 @@ impl Table {
     }
 
     /// Rewrites a region.
+    // That it is there is asked for, as in `remove`: a call is refused before it comes to this.
     #[tactic(auto, using(crate::proofs::Tables::row_put, crate::proofs::Tables::length_open))]
     pub(crate) fn put(&mut self, region: usize, row: Row)
         requires { region < length self.old }

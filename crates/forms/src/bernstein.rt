@@ -1,4 +1,5 @@
-// The Bernstein form: Bernstein coefficients on the whole box, halved down to the cell, with every rounding outward.
+// The Bernstein form: Bernstein coefficients on the whole box, halved down to the cell, with every rounding outward. Tables are plain arrays, so
+// each function says of its own what the sizes of the numbers are.
 ghost use Rattle.std.specs.Prelude.{◌≡◌, ◌-◌, ◌<◌, length};
 ghost use Rattle.mapping.specs.Values.{degree};
 ghost use Rattle.forms.specs.Arrays.{numbers, grid, Fills};

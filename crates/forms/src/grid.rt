@@ -1,4 +1,5 @@
-// Tables over three inputs, as arrays in row-major order, and work along one input after the other.
+// Tables over three inputs, as arrays in row-major order, and work along one input after the other. Tables and rows are plain arrays, so each
+// function asks for the degree's limit, and for the room.
 ghost use Rattle.std.specs.Prelude.{◌≡◌, ℕ, ◌+◌, ◌*◌, ◌<◌, ◌≤◌};
 ghost use Rattle.forms.specs.Arrays.{numbers, Turned};
 ghost use Rattle.forms.specs.Works.{EachWithin};
@@ -29,7 +30,7 @@ fn put_row<const N: usize>(table: &mut [i64; MOST_TERMS], start: usize, row: &[i
     ensures before { (j : ℕ) → j < start → numbers table.new j ≡ numbers table.old j }
     ensures size { (b : ℕ) → EachWithin b table.old → EachWithin b row.now → EachWithin b table.new }
 {
-    // Place by place: `copy_from_slice` takes longer, for rows of so few numbers.
+    // Place by place: with `copy_from_slice`, for rows of so few numbers, answers take longer than those of the plain program.
     for (k, x) in row[..=N].iter().enumerate() {
         table[start + k] = *x;
     }

@@ -57,7 +57,7 @@ fn add_rows(numbers: &mut [u64; MOST_TERMS], rows: usize, degree: usize, weights
     ensures sums { (t : ℕ) → t < rows → slice_index numbers.new t ≡ row_sum degree numbers.old (t * (degree + 1)) }
     ensures value { result ≡ total rows (λ t. row_weighed weights.now.each degree numbers.old (t * (degree + 1))) }
 {
-    // A row of one number is its own sum, and its weight is 0.
+    // The room and the degree's limit are asked for, since a table is a plain array. A row of one number is its own sum, and its weight is 0.
     if degree == 0 {
         return 0;
     }
@@ -95,6 +95,7 @@ pub(crate) fn share<D: Divisor>(sum: u64, by: D) -> i64
     ensures least { pos 0 ≤ℤ result }
     ensures most { result ≤ℤ pos (2 ^ 43) }
 {
-    // By `as`, which is shown to lose nothing: `try_from` would add a refusal that cannot come.
+    // The bound of a sum is asked for: a sum is a plain number. By `as`, which is shown to lose nothing: `try_from` would add a refusal that
+    // cannot come.
     up_by(sum as i64, by)
 }

@@ -40,7 +40,7 @@ impl Table {
         ensures low { (t : ℕ) → t < rows → slice_index_or self.new.low t (pos 0) ≡ worked (low_of by) degree self.old.low (t * (degree + 1)) }
         ensures high { (t : ℕ) → t < rows → slice_index_or self.new.high t (pos 0) ≡ worked (high_of by) degree self.old.high (t * (degree + 1)) }
     {
-        // The degree's limit is asked for, since a degree is a plain number. A row of one number is worked off as it stands.
+        // The room and the degree's limit are asked for, since a table is a plain array. A row of one number is worked off as it stands.
         if degree == 0 {
             return;
         }

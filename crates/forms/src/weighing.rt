@@ -1,5 +1,5 @@
 // From the coefficients of a row to the numerators of its Bernstein coefficients. A row of degree N has N + 1 numbers, at the places
-// 0 to N of an array.
+// 0 to N of an array. A row is a plain array, so each function asks for the degree's limit.
 ghost use Rattle.std.specs.Prelude.{◌≡◌, ℕ, ◌<◌, ◌≤◌};
 ghost use Rattle.forms.specs.Arrays.{numbers, Holds};
 ghost use Rattle.forms.specs.Worked.{Within};

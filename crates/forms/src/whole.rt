@@ -1,4 +1,5 @@
-// The Bernstein coefficients of a mapping on the whole box.
+// The Bernstein coefficients of a mapping on the whole box. Tables are plain arrays, so each function says of its own what the sizes of the
+// numbers are.
 ghost use Rattle.std.specs.Prelude.{◌≡◌, ◌*◌};
 ghost use Rattle.std.specs.NonZero.{non_zero_u64_get};
 ghost use Rattle.mapping.specs.Values.{degree, coefficient};

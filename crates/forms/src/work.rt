@@ -1,4 +1,4 @@
-// What the Bernstein form does to the rows of a table.
+// What the Bernstein form does to the rows of a table. A row is a plain array, so the degree's limit is asked for.
 ghost use Rattle.std.specs.Prelude.{ℕ, ◌<◌, List, ℤ};
 ghost use Rattle.forms.specs.Arrays.{numbers, Holds};
 ghost use Rattle.forms.specs.Halving.{Row, mean_down, kept, deep};

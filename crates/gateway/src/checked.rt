@@ -12,6 +12,7 @@ pub extern "C" fn rangecheck_record(bytes: &[u8]) -> u32
     ensures value { result ≡ number_of (record_fault bytes.now) }
 {
     let mut mapping = Mapping::new();
+    // As a number, since C has no other.
     match read(bytes, &mut mapping) {
         Ok(()) => 0,
         Err(fault) => u32::from(fault.number()),

@@ -19,6 +19,7 @@ impl Cell {
     }
 
     /// The cell of this shape; none where the shape is outside the limits.
+    // None, and no `TryFrom` with an error: it would have nothing more to say.
     pub fn new(shape: Shape) -> Option<Cell>
         ensures value { MatchOption result (Valid shape → ⊥) (λ c. c.shape ≡ shape) }
     {

@@ -24,6 +24,7 @@ pub enum RecordFault {
     Length = 7,
 }
 
+// `number` is one line for each enum: a trait would ask each for the same line again.
 impl RecordFault {
     /// The number of the refusal.
     pub fn number(self) -> u8

@@ -27,6 +27,7 @@ impl TryFrom<u8> for Kind {
 
 impl Kind {
     /// The number that stands for the kind in a record.
+    // As it stands: a discriminant is read by `as`.
     pub fn number(self) -> u8
         ensures value { result ≡ kind_number self }
     {
