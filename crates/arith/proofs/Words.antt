@@ -81,7 +81,7 @@ whole_turned (negsuc a) r k m f h above e is =
     )
 
 -- the quotient rounded down, as a call gave it
-back : {z q : ℤ} (m : ℕ) → SFits w64 z → q ≡ quot_down (to_z w64 (of_z w64 z)) m → to_z w64 (of_z w64 q) ≡ quot_down z m
+pub back : {z q : ℤ} (m : ℕ) → SFits w64 z → q ≡ quot_down (to_z w64 (of_z w64 z)) m → to_z w64 (of_z w64 q) ≡ quot_down z m
 back {z} {q} m f e =
     let q_is : q ≡ quot_down z m = e ∙ ap (λ x. quot_down x m) (to_z-of_z w64 z f) in
     to_z-of_z w64 q (subst (SFits w64) (sym q_is) (down_fits w64 z m f)) ∙ q_is

@@ -1,5 +1,5 @@
 // The enquiry: opened on a mapping, reported on, and closed.
-ghost use Rattle.std.specs.Prelude.{◌≡◌, List};
+ghost use Rattle.std.specs.Prelude.{◌≡◌, ◌≤◌, List, length};
 ghost use Rattle.enquiry.specs.Honest.{Honest, WitnessTrue};
 ghost use Rattle.enquiry.specs.Runs.{after, reports};
 ghost use Rattle.enquiry.specs.States.{opened};
@@ -54,10 +54,11 @@ impl<F: Form> Enquiry<F> {
     }
 
     /// Reports the least low end, the greatest high end and the largest slack over all regions, open and
-    /// cleared, and the verdict. It refuses nothing.
+    /// cleared, and the verdict. It refuses nothing. At most 64 regions are open.
     #[tactic(auto, using(std::proofs::lemmas::Int::ints), unfolding(crate::specs::Steps::report, crate::specs::States::hull))]
     pub fn report(&self) -> Report
         ensures value { result ≡ report self.now.mapping (view self.now) }
+        ensures room { length (view self.now).rows ≤ 64 }
     {
         let range = self.table.hull(self.cleared).unwrap_or(NO_ANSWER);
         Report {

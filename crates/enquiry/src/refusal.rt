@@ -24,6 +24,7 @@ impl Refusal {
     pub fn number(self) -> u8
         ensures value { result ≡ refusal_number self }
     {
+        // One line, as each `number` of a refusal in mapping: a trait would ask for the same line again.
         self as u8
     }
 }

@@ -96,6 +96,7 @@ impl Table {
     /// The hull and the largest slack of what there may be and all open regions.
     pub(crate) fn hull(&self, cleared: Option<Answer>) -> Option<Answer>
         ensures value { result ≡ join_rows cleared self.now }
+        ensures room { length self.now ≤ 64 }
     {
         self.rows[..self.count]
             .iter()

@@ -15,7 +15,7 @@ module _ (ws row : List ℕ) (few : length row ≤ 8) (light : (i : ℕ) → get
   abbrev item : ℕ → ℕ
   item k = get_or ws k 0 * get_or row k 0
 
-  item_most : (k : ℕ) → k < length row → item k ≤ 64 * 2 ^ 37
+  pub item_most : (k : ℕ) → k < length row → item k ≤ 64 * 2 ^ 37
   item_most k l = mul-le-mul (light k) (small k l)
 
   pub weighed_most : (n : ℕ) → n ≤ length row → total n item ≤ 8 * (64 * 2 ^ 37)

@@ -37,14 +37,14 @@ module _ (m : Mapping) (v : ℕ) (input : v < 3) where
   abbrev size : ℕ → ℕ
   size t = nat_abs (get_or m.coefficients t (pos 0))
 
-  moment_is : pos (weighed_sizes by_exponent m v) ≡ moment m v
+  pub moment_is : pos (weighed_sizes by_exponent m v) ≡ moment m v
   unfolding weighed_sizes moment
   moment_is =
       pos_total (terms m.degrees) (λ t. get_or by_exponent (exponent m.degrees v t) 0 * size t)
       ∙ sum_ext (terms m.degrees) (λ t. pos (get_or by_exponent (exponent m.degrees v t) 0 * size t)) (λ t. pos (exponent m.degrees v t * size t)) (λ t l.
       ap (λ e. pos (e * size t)) (exponent_is (exponent m.degrees v t) (exponent_small m v input t l)))
 
-  bends_is : pos (weighed_sizes by_pairs m v) ≡ bends m v
+  pub bends_is : pos (weighed_sizes by_pairs m v) ≡ bends m v
   unfolding weighed_sizes
   bends_is =
       pos_total (terms m.degrees) (λ t. get_or by_pairs (exponent m.degrees v t) 0 * size t)

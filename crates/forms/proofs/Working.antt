@@ -49,7 +49,7 @@ fits b (negsuc n) l h = record { sfits = omega (arith, lin, h) }
 
 -- ---- one turn of Horner's rule over a row of n + 1 numbers, at most 8, and at most 2^40 in size: k numbers are left
 module _ (by : ℤ → ℤ) (kept : (p : ℤ) → BoundKept p (by p)) (xs : List ℤ) (n : ℕ) (few : n ≤ 7) (small : Small (2 ^ 40) (n + 1) xs) where
-  so_far_small : (k : ℕ) (z : ℤ) → k ≤ n → z ≡ worked by (n - k) xs k → Within (2 ^ 43) z
+  pub so_far_small : (k : ℕ) (z : ℤ) → k ≤ n → z ≡ worked by (n - k) xs k → Within (2 ^ 43) z
   so_far_small k z l e =
       let b = worked_small by xs kept (2 ^ 40) (n - k) k (λ i h g. small i (omega arith)) in
       let m : suc (n - k) * 2 ^ 40 ≤ 2 ^ 43 = omega arith in

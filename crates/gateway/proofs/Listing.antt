@@ -8,7 +8,7 @@ use Rattle.enquiry.proofs.Cells.{same_cell}
 use Rattle.gateway.specs.Enclosing.{AnswersOver, Holds, Behind}
 
 -- three numbers that stay where they are
-still_holds : (a : Answer) (before after : List ℤ) (at : ℕ) → ((j : ℕ) → j < at + 3 → get_or after j (pos 0) ≡ get_or before j (pos 0)) → Holds a before at → Holds a after at
+pub still_holds : (a : Answer) (before after : List ℤ) (at : ℕ) → ((j : ℕ) → j < at + 3 → get_or after j (pos 0) ≡ get_or before j (pos 0)) → Holds a before at → Holds a after at
 still_holds a before after at same h =
     record {
       low = same at (omega arith) ∙ h.low;

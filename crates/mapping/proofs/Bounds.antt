@@ -16,7 +16,7 @@ module _ (m : Mapping) (p : Point) where
   unfolding AtMost
   at_most_weaker y z h a = le_trans a (mul_le_right (weight m p) h)
 
-  weight_above : Rational p → 0 < weight m p
+  pub weight_above : Rational p → 0 < weight m p
   unfolding weight
   weight_above r =
       one-le-pow (degree m 0 + degree m 1 + degree m 2) p.denominator r.0

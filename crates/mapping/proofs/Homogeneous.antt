@@ -10,7 +10,7 @@ use Rattle.mapping.specs.Values.{degree, coefficient, scaled}
 use Rattle.mapping.specs.declared.mapping.Mapping.{Mapping}
 
 -- what one input gives, stretched by c
-share_stretched : (c n i u D : ℕ) → i ≤ n → share n i (c * u) (c * D) ≡ c ^ n * share n i u D
+pub share_stretched : (c n i u D : ℕ) → i ≤ n → share n i (c * u) (c * D) ≡ c ^ n * share n i u D
 share_stretched c n i u D h =
     let whole : c ^ n ≡ c ^ i * c ^ (n - i) = ap (λ k. c ^ k) (omega arith) ∙ pow-add c i (n - i) in
     ap (λ x. x * (c * D) ^ (n - i)) (mul-pow c u i) ∙ ap (λ x. c ^ i * u ^ i * x) (mul-pow c D (n - i))

@@ -1,15 +1,13 @@
 -- Bytes that are written as a record. Assumes nothing.
-use Rattle.std.specs.Int.{to_be_bytes}
-use Rattle.std.specs.List.{flat_map}
-use Rattle.std.proofs.Common.{map, refl, ◌≡◌, ℕ, ◌+◌, ◌*◌, ◌/◌, ◌%◌, ◌<◌, ◌≤◌, List, [], ◌∷◌, ◌++◌, length, get_or, take, ℤ, pos, sym, ap, ◌∙◌, append_assoc, div-one, arith, w32, of_z}
+use Rattle.std.proofs.Common.{◌≡◌, ℕ, ◌+◌, ◌*◌, ◌/◌, ◌%◌, ◌<◌, ◌≤◌, List, [], ◌∷◌, ◌++◌, length, get_or, take, ℤ, pos, sym, ap, ◌∙◌, append_assoc, div-one, arith, w32, of_z}
 use Rattle.std.proofs.ByRecursion.{All-take}
-use Rattle.std.proofs.lemmas.List.{ext_get_or, length-map, get_or-map, take-map, length-take-le}
-use Rattle.std.proofs.lemmas.List.Folds.{flat_map-map}
+use Rattle.std.proofs.lemmas.List.{take_more, length-take-le}
 use Rattle.mapping.specs.Bits.{spell, bits_of, Bytes}
 use Rattle.mapping.specs.Terms.{terms}
 use Rattle.mapping.specs.Headers.{header_bits}
 use Rattle.mapping.specs.Records.{value_bits, header_for, record_bits, record_size}
 use Rattle.mapping.specs.declared.mapping.Mapping.{Mapping}
+use Rattle.mapping.proofs.Coefficients.{value_bits_push}
 use Rattle.mapping.proofs.RoundTrip.{record_length}
 use Rattle.mapping.proofs.Spelling.{spell_append, spell_bytes, bits_of_append, same_bytes}
 
@@ -42,36 +40,23 @@ header_number s n₁ n₂ n₃ k q hs h₁ h₂ h₃ hk hq =
     ∙ ap (λ r. (((((r ++ spell 3 n₁) ++ spell 3 n₂) ++ spell 3 n₃) ++ spell 3 k) ++ spell 4 q) ++ spell 2 0) (spell_append 4 2 1 s hs)
     ∙ simp append_assoc
 
--- the bytes of coefficients, each with the most significant first
-abbrev pub big_endian : ℤ → List ℕ
-big_endian c = to_be_bytes w32 (of_z w32 c)
-
-value_bytes : (cs : List ℤ) → bits_of (flat_map big_endian cs) ≡ value_bits cs
-unfolding value_bits bits_of
-value_bytes [] = refl
-value_bytes (c ∷ cs) =
-    bits_of_append (big_endian c) (flat_map big_endian cs)
-    ∙ ap (λ r. r ++ bits_of (flat_map big_endian cs)) (four_bytes (of_z w32 c))
-    ∙ ap (λ r. spell 32 (of_z w32 c) ++ r) (value_bytes cs)
+-- a buffer after one coefficient more, behind those that were written
+pub value_written : (values : List ℤ) (k : ℕ) (out out' bytes : List ℕ) → k < length values
+    → bits_of bytes ≡ spell 32 (of_z w32 (get_or values k (pos 0)))
+    → bits_of (take (4 * k) out) ≡ value_bits (take k values)
+    → take (4 * (k + 1)) out' ≡ take (4 * k) out ++ bytes
+    → bits_of (take (4 * (k + 1)) out') ≡ value_bits (take (k + 1) values)
+value_written values k out out' bytes within bits e front =
+    ap bits_of front ∙ bits_of_append (take (4 * k) out) bytes
+    ∙ ap (λ r. r ++ bits_of bytes) e ∙ ap (λ r. value_bits (take k values) ++ r) bits
+    ∙ sym (ap value_bits (take_more values k (pos 0) within) ∙ value_bits_push (take k values) (get_or values k (pos 0)))
 
 -- the whole record, from its two parts
-module _ (m : Mapping) (header : List ℕ) (bytes : List (List ℕ)) where
-  pub record_written : bits_of header ≡ header_bits (header_for m) → length bytes ≡ 64
-      → ((k : ℕ) → k < 64 → get_or bytes k [] ≡ big_endian (get_or m.coefficients k (pos 0)))
-      → bits_of (header ++ flat_map (λ x. x) (take (terms m.degrees) bytes)) ≡ record_bits m
-  unfolding record_bits
-  record_written spelled full each =
-      let n = terms m.degrees in
-      let all : bytes ≡ map big_endian m.coefficients =
-      ext_get_or [] bytes (map big_endian m.coefficients) (full ∙ sym (length-map m.coefficients big_endian ∙ m.table))
-      (λ k h. each k (omega arith) ∙ sym (get_or-map big_endian m.coefficients k (pos 0) [] (omega (arith, m.table)))) in
-      let values : flat_map (λ x. x) (take n bytes) ≡ flat_map big_endian (take n m.coefficients) =
-      ap (λ bs. flat_map (λ x. x) (take n bs)) all ∙ ap (flat_map (λ x. x)) (take-map big_endian n m.coefficients)
-      ∙ flat_map-map (λ x. x) big_endian (take n m.coefficients) in
-      bits_of_append header (flat_map (λ x. x) (take n bytes))
-      ∙ ap (λ r. r ++ bits_of (flat_map (λ x. x) (take n bytes))) spelled
-      ∙ ap (λ bs. header_bits (header_for m) ++ bits_of bs) values
-      ∙ ap (λ r. header_bits (header_for m) ++ r) (value_bytes (take n m.coefficients))
+pub record_written : (m : Mapping) (header values : List ℕ) → bits_of header ≡ header_bits (header_for m)
+    → bits_of values ≡ value_bits (take (terms m.degrees) m.coefficients) → bits_of (header ++ values) ≡ record_bits m
+unfolding record_bits
+record_written m header values spelled filled =
+    bits_of_append header values ∙ ap (λ r. r ++ bits_of values) spelled ∙ ap (λ r. header_bits (header_for m) ++ r) filled
 
 -- what a buffer begins with is the one record of the mapping
 pub begins_with : (m : Mapping) (n : ℕ) (out bs : List ℕ) → n ≡ record_size m → n ≤ length out → Bytes out → Bytes bs → bits_of (take n out) ≡ record_bits m → bits_of bs ≡ record_bits m → take n out ≡ bs

@@ -1,4 +1,4 @@
--- A cell in nine bytes.
+-- A cell in nine bytes. Inputs are counted from 0.
 --     pair_at bs i       the two bytes from place i on, as a number, the most significant first
 --     part_in bs v       the part of input v: the depth in byte v, and the place in the two bytes from place 3 + 2 v on
 --     unpacked bs        the shape in nine bytes: three depths, and then three places, two bytes each

@@ -30,6 +30,7 @@ impl RecordFault {
     pub fn number(self) -> u8
         ensures value { result ≡ record_number self }
     {
+        // By `as`, which reads the discriminant.
         self as u8
     }
 }

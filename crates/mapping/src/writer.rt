@@ -1,8 +1,8 @@
 // The record writer: the first bytes of a buffer that the caller hands over.
-ghost use Rattle.std.specs.Prelude.{◌≡◌, ℕ, List, length};
+ghost use Rattle.std.specs.Prelude.{◌≡◌, ℕ, ◌*◌, List, length};
 ghost use Rattle.mapping.specs.Bits.{bits_of, Bytes};
 ghost use Rattle.mapping.specs.Headers.{header_bits};
-ghost use Rattle.mapping.specs.Records.{header_for, record_bits, written, Written, Begins};
+ghost use Rattle.mapping.specs.Records.{header_for, value_bits, record_bits, written, Written, Begins};
 
 use crate::fault::WriteFault;
 use crate::fields::{COEFFICIENT, FORMAT, HEADER};
@@ -22,6 +22,19 @@ fn header_bytes(m: &Mapping) -> [u8; 3]
     [high, middle, low]
 }
 
+/// Writes coefficients one after the other, the most significant byte of each first.
+fn put_values(out: &mut [u8], values: &[i32])
+    requires { length out.old ≡ 4 * length values.now }
+    ensures bits { bits_of out.new ≡ value_bits values.now }
+{
+    // By place: `map` would turn all 64 coefficients, however few there are, and once pieces of `out` were lent out to be written, no
+    // more than its length would be known.
+    for (k, value) in values.iter().enumerate() {
+        let at = COEFFICIENT * k;
+        out[at..at + COEFFICIENT].copy_from_slice(&value.to_be_bytes());
+    }
+}
+
 /// Writes the record of `m` into the first bytes of `out` and answers how many they are. The bytes behind
 /// them stay as they were, and so do all where the buffer is shorter than the record.
 pub fn write(m: &Mapping, out: &mut [u8]) -> Result<usize, WriteFault>
@@ -37,7 +50,6 @@ pub fn write(m: &Mapping, out: &mut [u8]) -> Result<usize, WriteFault>
     let (record, _) = out.split_at_mut(size);
     let (header, values) = record.split_at_mut(HEADER);
     header.copy_from_slice(&header_bytes(m));
-    let bytes = m.coefficients.map(i32::to_be_bytes);
-    values.copy_from_slice(bytes[..terms].as_flattened());
+    put_values(values, &m.coefficients[..terms]);
     Ok(size)
 }

@@ -6,7 +6,6 @@ use mapping::framed::split;
 use mapping::mapping::Mapping;
 use mapping::record::read;
 use mapping::writer::write;
-use std::fmt;
 use std::io::Read;
 
 /// A record that was written back, with its length: as the same bytes, or as others.
@@ -16,20 +15,21 @@ enum Written {
     Different(usize),
 }
 
-impl fmt::Display for Written {
-    fn fmt<W: fmt::Write>(&self, f: &mut fmt::Formatter<W>) -> fmt::Result {
-        match self {
-            Written::Same(size) => write!(f, "accepted {size} same"),
-            Written::Different(size) => write!(f, "accepted {size} different"),
-        }
-    }
-}
-
 /// Why a record is not written back.
 #[derive(Clone, Copy)]
 enum Fault {
     Read(RecordFault),
     Write(WriteFault),
+}
+
+impl Fault {
+    /// The number of the refusal.
+    fn number(self) -> u8 {
+        match self {
+            Fault::Read(fault) => fault.number(),
+            Fault::Write(fault) => fault.number(),
+        }
+    }
 }
 
 impl From<RecordFault> for Fault {
@@ -41,15 +41,6 @@ impl From<RecordFault> for Fault {
 impl From<WriteFault> for Fault {
     fn from(fault: WriteFault) -> Fault {
         Fault::Write(fault)
-    }
-}
-
-impl fmt::Display for Fault {
-    fn fmt<W: fmt::Write>(&self, f: &mut fmt::Formatter<W>) -> fmt::Result {
-        match self {
-            Fault::Read(fault) => write!(f, "no {}", fault.number()),
-            Fault::Write(fault) => write!(f, "no {}", fault.number()),
-        }
     }
 }
 
@@ -73,8 +64,9 @@ fn main(rt: HostRuntime) -> anyhow::Result<()> {
     let mut rest = input.as_slice();
     while let Some((record, next)) = split(rest) {
         match read_and_write(record) {
-            Ok(written) => println!(rt; "{written}")?,
-            Err(fault) => println!(rt; "{fault}")?,
+            Ok(Written::Same(size)) => println!(rt; "accepted {size} same")?,
+            Ok(Written::Different(size)) => println!(rt; "accepted {size} different")?,
+            Err(fault) => println!(rt; "no {}", fault.number())?,
         }
         rest = next;
     }
