@@ -1,25 +1,40 @@
 -- A mapping's coefficients as a table, worked off one input after the other. Assumes nothing.
-use Rattle.std.proofs.Common.{◌≡◌, ℕ, ◌+◌, ◌*◌, ◌^◌, ◌<◌, ◌≤◌, List, length, get_or, ℤ, pos, sym, ap, ◌∙◌, ⊎_elim, arith, lit<, lit≤, w64, to_z, of_z}
+use Rattle.std.proofs.Common.{◌≡◌, ℕ, ◌+◌, ◌*◌, ◌^◌, ◌<◌, ◌≤◌, List, length, get_or, take, ℤ, pos, sym, ap, ◌∙◌, ⊎_elim, arith, lit<, lit≤, w32, w64, to_z, of_z}
 use Rattle.std.proofs.lemmas.Int.{to_z-of_z}
 use Rattle.std.proofs.lemmas.Bool.{cases_lt}
-use Rattle.std.proofs.Math.ListN.{get_or-eq_default}
 use Rattle.arith.specs.Product.{BoundKept}
 use Rattle.arith.specs.declared.factor.Factor.{Factor}
+use Rattle.mapping.specs.Terms.{terms}
 use Rattle.mapping.specs.Values.{degree, coefficient}
 use Rattle.mapping.specs.declared.mapping.Mapping.{Mapping}
 use Rattle.forms.specs.Nested.{horner, nested_low, nested_high}
 use Rattle.forms.specs.Worked.{no_factor, factors, low_of, high_of, worked, Small}
 use Rattle.forms.specs.Horner.{horner_ext}
+use Rattle.forms.proofs.Upto.{Upto}
+use Rattle.forms.proofs.Numerators.{used, used_at}
 use Rattle.forms.proofs.Working.{fits, row_end, rows_fit, table_small, small_weaker, narrow_small}
 
--- an array of what h makes of each coefficient, read past its end too
-pub each_coefficient : {A : Type 0} (m : Mapping) (d : A) (h : ℤ → A) (xs : List A) → h (pos 0) ≡ d → length xs ≡ 64
-    → ((k : ℕ) → k < 64 → get_or xs k d ≡ h (get_or m.coefficients k (pos 0))) → (k : ℕ) → get_or xs k d ≡ h (get_or m.coefficients k (pos 0))
-each_coefficient m d h xs zero long below k =
-    ⊎_elim
-    (λ (l : k < 64). below k l)
-    (λ (l : 64 ≤ k). get_or-eq_default xs d (omega (arith, long)) ∙ sym zero ∙ ap h (sym (get_or-eq_default m.coefficients (pos 0) (omega (arith, m.table)))))
-    (cases_lt k 64)
+-- ---- the table at the start
+module _ (m : Mapping) where
+  -- a coefficient as it is read from 32 bits, and kept in 64
+  pub narrow_read : (n k : ℕ) → k < length (take n m.coefficients) → to_z w32 (of_z w32 (get_or (take n m.coefficients) k (pos 0))) ≡ get_or m.coefficients k (pos 0)
+  narrow_read n k inside =
+      ap (λ y. to_z w32 (of_z w32 y)) (used_at m n k inside) ∙ to_z-of_z w32 (get_or m.coefficients k (pos 0)) (record { sfits = m.narrow k })
+
+  pub wide : (n k : ℕ) (x : ℤ) → k < length (take n m.coefficients) → x ≡ to_z w32 (of_z w32 (get_or (take n m.coefficients) k (pos 0)))
+      → to_z w64 (of_z w64 x) ≡ get_or m.coefficients k (pos 0)
+  wide n k x inside is =
+      ap (λ y. to_z w64 (of_z w64 y)) (is ∙ narrow_read n k inside)
+      ∙ to_z-of_z w64 (get_or m.coefficients k (pos 0)) (record { sfits = omega (arith, m.narrow k) })
+
+  -- an array of what h makes of each coefficient: the coefficients past the used ones are 0
+  pub all_coefficients : {A : Type 0} (d : A) (h : ℤ → A) (n k : ℕ) (xs : List A) → n ≡ terms m.degrees → length (take n m.coefficients) ≤ k
+      → Upto d (λ j. h (get_or m.coefficients j (pos 0))) (λ j. h (pos 0)) k xs → (j : ℕ) → get_or xs j d ≡ h (get_or m.coefficients j (pos 0))
+  all_coefficients d h n k xs e all so_far j =
+      ⊎_elim
+      (λ (l : j < k). so_far.0 j l)
+      (λ (l : k ≤ j). so_far.1 j l ∙ ap h (sym (m.unused j (omega (arith, used m n e)))))
+      (cases_lt j k)
 
 module _ (m : Mapping) where
   pub room_3 : (degree m 0 + 1) * (degree m 1 + 1) * (degree m 2 + 1) ≤ 64

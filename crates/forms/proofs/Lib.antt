@@ -12,7 +12,6 @@ pub mod Losses
 pub mod Upto
 pub mod Working
 pub mod Inputs
-pub mod Made
 pub mod Sizes
 pub mod Agreeing
 pub mod Sizing

@@ -1,11 +1,12 @@
 -- Sums as a loop over the coefficients adds them up in 64 bits. Assumes nothing.
-use Rattle.std.proofs.Common.{◌≡◌, ℕ, ◌+◌, ◌<◌, ◌≤◌, ℤ, ◌+ℤ◌, sym, ap, ◌∙◌, subst, ap₂, add-one, w64, SFits, to_z, of_z}
+use Rattle.std.proofs.Common.{◌≡◌, ℕ, ◌+◌, ◌<◌, ◌≤◌, length, take, ℤ, pos, ◌+ℤ◌, sym, ap, ◌∙◌, subst, ap₂, add-one, arith, length-take, get_or-take, w64, SFits, to_z, of_z}
 use Rattle.std.proofs.lemmas.Int.{to_z-of_z}
 use Rattle.arith.specs.Sums.{sum}
 use Rattle.arith.proofs.Sums.{sum_last}
 use Rattle.mapping.specs.Terms.{terms}
 use Rattle.mapping.specs.declared.mapping.Mapping.{Mapping}
 use Rattle.mapping.specs.Values.{degree}
+use Rattle.forms.specs.Arrays.{numbers}
 use Rattle.forms.proofs.Places.{exponent, exponent_first, exponent_second, exponent_third}
 use Rattle.forms.specs.BernsteinSound.{three_cases}
 
@@ -25,3 +26,10 @@ module _ (f : ℕ → ℤ) (t : ℕ) (s p : ℤ) (e : s ≡ sum t f) (g : p ≡ 
 
   pub step_is : to_z w64 (of_z w64 (s +ℤ to_z w64 (of_z w64 p))) ≡ sum (t + 1) f
   step_is = ap (λ z. to_z w64 (of_z w64 z)) step ∙ to_z-of_z w64 (sum (t + 1) f) next
+
+-- the used part of the coefficients
+pub used : (m : Mapping) (n : ℕ) → n ≡ terms m.degrees → length (take n m.coefficients) ≡ terms m.degrees
+used m n e = length-take n m.coefficients ∙ omega (arith, m.small, m.table)
+
+pub used_at : (m : Mapping) (n t : ℕ) → t < length (take n m.coefficients) → numbers (take n m.coefficients) t ≡ numbers m.coefficients t
+used_at m n t l = get_or-take n m.coefficients t (pos 0) (omega (arith, length-take n m.coefficients))

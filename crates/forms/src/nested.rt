@@ -8,10 +8,10 @@ use crate::answer::Answer;
 use crate::form::Form;
 use crate::sums::{BY_EXPONENT, share, weighed_sizes};
 use crate::table::Table;
-use crate::wide::degrees;
+use crate::wide::{degrees, widen};
 use arith::{Factor, Power};
 use mapping::cell::{Cell, Part};
-use mapping::mapping::Mapping;
+use mapping::mapping::{MOST_TERMS, Mapping};
 
 /// The form that works off inputs 3, 2 and 1 in turn, with one rounding outward for each product.
 #[derive(Clone, Copy)]
@@ -91,7 +91,13 @@ fn ends(m: &Mapping, by: [Factor; 3]) -> (i64, i64)
 {
     let [first, second, third] = degrees(m);
     let rows = first + 1;
-    let mut table = Table::new(m);
+    // Each coefficient is an enclosure of itself. Both arrays are filled in their places: a table that a function returned would be copied.
+    let mut table = Table {
+        low: [0; MOST_TERMS],
+        high: [0; MOST_TERMS],
+    };
+    widen(m, &mut table.low);
+    widen(m, &mut table.high);
     table.work_off(rows * (second + 1), third, by[2]);
     table.work_off(rows, second, by[1]);
     table.work_off(1, first, by[0]);

@@ -6,7 +6,6 @@ ghost use Rattle.forms.specs.Totals.{total, row_sum, row_weighed, weighed_sizes}
 use crate::wide::degrees;
 use arith::{Divisor, up_by};
 use mapping::mapping::{MOST_TERMS, Mapping};
-use std::array;
 
 /// What each exponent counts for: the exponent 0 nothing, and no exponent more than 64.
 #[derive(Clone, Copy)]
@@ -27,11 +26,15 @@ pub(crate) const BY_PAIRS: Weights = Weights {
     each: [0, 0, 2, 6, 12, 20, 30, 42],
 };
 
-/// The coefficients' sizes.
-fn sizes(m: &Mapping) -> [u64; MOST_TERMS]
-    ensures value { (k : ℕ) → slice_index result k ≡ unsigned_abs (slice_index_or m.now.coefficients k (pos 0)) }
+/// Puts the coefficients' sizes into an array of zeros.
+// An array that it returned would be copied.
+fn put_sizes(m: &Mapping, sizes: &mut [u64; MOST_TERMS])
+    requires { (k : ℕ) → slice_index sizes.old k ≡ 0 }
+    ensures value { (k : ℕ) → slice_index sizes.new k ≡ unsigned_abs (slice_index_or m.now.coefficients k (pos 0)) }
 {
-    array::from_fn(|k| u64::from(m.coefficients[k].unsigned_abs()))
+    for (k, a) in m.coefficients[..m.terms()].iter().enumerate() {
+        sizes[k] = u64::from(a.unsigned_abs());
+    }
 }
 
 /// For each input the sum, over all coefficients, of the weight of the input's exponent times the coefficient's size.
@@ -39,7 +42,8 @@ pub(crate) fn weighed_sizes(m: &Mapping, weights: &Weights) -> [u64; 3]
     ensures value { (v : ℕ) → v < 3 → slice_index result v ≡ weighed_sizes weights.now.each m.now v }
     ensures most { (v : ℕ) → v < 3 → slice_index result v ≤ 2 ^ 43 }
 {
-    let mut sizes = sizes(m);
+    let mut sizes = [0; MOST_TERMS];
+    put_sizes(m, &mut sizes);
     let [first, second, third] = degrees(m);
     let rows = first + 1;
     let of_third = add_rows(&mut sizes, rows * (second + 1), third, weights);

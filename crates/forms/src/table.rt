@@ -2,9 +2,8 @@
 ghost use Rattle.std.specs.Prelude.{◌≡◌, ℕ, ◌+◌, ◌*◌, ◌-◌, ◌^◌, ◌<◌, ◌≤◌, length, pos, slice_index_or};
 ghost use Rattle.forms.specs.Worked.{low_of, high_of, worked, Small};
 
-use crate::wide::widen;
 use arith::{Factor, times};
-use mapping::mapping::{MOST_TERMS, Mapping};
+use mapping::mapping::MOST_TERMS;
 
 /// Enclosures, one for each combination of exponents of the inputs that are not worked off yet; the last input's exponent runs fastest.
 // Low and high ends stand in an array each, as plain numbers.
@@ -17,19 +16,6 @@ pub(crate) struct Table {
 }
 
 impl Table {
-    /// The coefficients, each an enclosure of itself.
-    pub(crate) fn new(m: &Mapping) -> Table
-        ensures low { (k : ℕ) → slice_index_or result.low k (pos 0) ≡ slice_index_or m.now.coefficients k (pos 0) }
-        ensures high { (k : ℕ) → slice_index_or result.high k (pos 0) ≡ slice_index_or m.now.coefficients k (pos 0) }
-    {
-        let mut ends = [0; MOST_TERMS];
-        widen(m, &mut ends);
-        Table {
-            low: ends,
-            high: ends,
-        }
-    }
-
     /// Row `t` of the table for each `t` below `rows`, worked off into place `t`: rows are `degree + 1` long, so that no later row reads
     /// that place. Numbers of at most 2^40 in size leave room for every product and sum.
     pub(crate) fn work_off(&mut self, rows: usize, degree: usize, by: Factor)

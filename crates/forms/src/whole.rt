@@ -30,8 +30,9 @@ fn denominator(m: &Mapping) -> NonZeroU64
     nonzero
 }
 
-/// Puts the numerators of the Bernstein coefficients into a table, input by input.
+/// Puts the numerators of the Bernstein coefficients into a table of zeros, input by input.
 fn numerators(m: &Mapping, table: &mut [i64; MOST_TERMS])
+    requires { Zeros table.old }
     ensures value { Fills m.now.degrees table.new (numerator (degree m.now 0) (degree m.now 1) (degree m.now 2) (coefficient m.now)) }
     ensures size { EachWithin summable table.new }
 {
@@ -42,14 +43,15 @@ fn numerators(m: &Mapping, table: &mut [i64; MOST_TERMS])
     along(table, n3, (n1 + 1) * (n2 + 1), Weigh);
 }
 
-/// Puts into one table the Bernstein coefficients on the box, rounded down, and into the other one, of zeros, minus the Bernstein
+/// Puts into one table of zeros the Bernstein coefficients on the box, rounded down, and into the other one minus the Bernstein
 /// coefficients, which are rounded up; both in the order of the coefficients.
 pub(crate) fn first_tables(
     m: &Mapping,
     low: &mut [i64; MOST_TERMS],
     mirrored: &mut [i64; MOST_TERMS],
 )
-    requires { Zeros mirrored.old }
+    requires low { Zeros low.old }
+    requires high { Zeros mirrored.old }
     ensures low { Fills m.now.degrees low.new (held Low (on_box Low m.now)) }
     ensures high { Fills m.now.degrees mirrored.new (held High (on_box High m.now)) }
     ensures sizes { EachWithin summable low.new × EachWithin summable mirrored.new }

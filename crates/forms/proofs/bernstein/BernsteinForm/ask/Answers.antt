@@ -4,4 +4,4 @@ use Rattle.forms.proofs.Upto.{throughout}
 use Rattle.forms.proofs.bernstein.BernsteinForm.ask.Goals as goal
 
 pub first_tables-requires : goal.first_tables-requires
-first_tables-requires c = throughout (pos 0) 64
+first_tables-requires c = record { low = throughout (pos 0) 64; high = throughout (pos 0) 64 }
