@@ -27,7 +27,7 @@ pub(crate) const BY_PAIRS: Weights = Weights {
 };
 
 /// Puts the coefficients' sizes into an array of zeros.
-// An array that it returned would be copied.
+// Not by `array::from_fn`, which goes over all 64 places however few coefficients there are; and an array that it returned would be copied.
 fn put_sizes(m: &Mapping, sizes: &mut [u64; MOST_TERMS])
     requires { (k : ℕ) → slice_index sizes.old k ≡ 0 }
     ensures value { (k : ℕ) → slice_index sizes.new k ≡ unsigned_abs (slice_index_or m.now.coefficients k (pos 0)) }

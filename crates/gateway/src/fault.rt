@@ -57,6 +57,7 @@ impl DeliverFault {
     pub fn number(self) -> i64
         ensures value { result ≡ deliver_number self }
     {
+        // One line, as each `number` of a refusal in mapping.
         self as i64
     }
 }

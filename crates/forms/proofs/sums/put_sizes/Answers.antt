@@ -1,12 +1,9 @@
 -- The sizes of the coefficients, one more at each turn. Assumes nothing.
 use Rattle.std.proofs.Common.{◌≤◌, get_or, pos, nat_abs, ap, ◌∙◌, arith, length-set}
-use Rattle.forms.proofs.Upto.{upto_none, upto_more}
-use Rattle.forms.proofs.Inputs.{narrow_read, all_coefficients}
+use Rattle.forms.proofs.Upto.{upto_more}
+use Rattle.forms.proofs.Inputs.{narrow_read}
 use Rattle.forms.proofs.Numerators.{used}
 use Rattle.forms.proofs.sums.put_sizes.Goals as goal
-
-pub loop-k-init : goal.loop-k-init
-loop-k-init c = (c.told-sizes, upto_none 0 (λ j. nat_abs (get_or c.args.m.now.coefficients j (pos 0))) (λ j. 0) c.args.sizes.now c.requires)
 
 pub loop-k-preserved : goal.loop-k-preserved
 loop-k-preserved c =
@@ -18,7 +15,3 @@ loop-k-preserved c =
       length-set c.loop-k.sizes k _ ∙ c.loop-k.invariant.0,
       upto_more 0 (λ j. nat_abs (get_or m.coefficients j (pos 0))) (λ j. 0) k c.loop-k.sizes _ (omega (arith, c.loop-k.invariant.0)) size c.loop-k.invariant.1,
     )
-
-pub returns : goal.returns
-returns c =
-    record { value = all_coefficients c.args.m.now 0 nat_abs c.terms.result c.loop-k.k c.loop-k.sizes c.terms.ensures.value c.loop-k-test.false c.loop-k.invariant.1 }

@@ -1,13 +1,10 @@
 -- The coefficients in 64 bits, one more at each turn. Assumes nothing.
 use Rattle.std.proofs.Common.{◌≤◌, pos, ◌∙◌, arith, length-set}
 use Rattle.forms.specs.Arrays.{numbers}
-use Rattle.forms.proofs.Inputs.{wide, all_coefficients}
+use Rattle.forms.proofs.Inputs.{wide}
 use Rattle.forms.proofs.Numerators.{used}
-use Rattle.forms.proofs.Upto.{upto_none, upto_more}
+use Rattle.forms.proofs.Upto.{upto_more}
 use Rattle.forms.proofs.wide.widen.Goals as goal
-
-pub loop-k-init : goal.loop-k-init
-loop-k-init c = (c.told-table, upto_none (pos 0) (numbers c.args.m.now.coefficients) (λ j. pos 0) c.args.table.now c.requires)
 
 pub loop-k-preserved : goal.loop-k-preserved
 loop-k-preserved c =
@@ -19,10 +16,3 @@ loop-k-preserved c =
       upto_more (pos 0) (numbers m.coefficients) (λ j. pos 0) k c.loop-k.table _ (omega (arith, c.loop-k.invariant.0))
           (wide m n k c.from.result c.loop-k-test.true c.from.ensures) c.loop-k.invariant.1,
     )
-
-pub returns : goal.returns
-returns c =
-    record {
-      value = all_coefficients c.args.m.now (pos 0) (λ z. z) c.terms.result c.loop-k.k c.loop-k.table c.terms.ensures.value c.loop-k-test.false c.loop-k.invariant.1;
-      long = c.loop-k.invariant.0;
-    }

@@ -1,4 +1,4 @@
-use Rattle.std.proofs.Common.{◌≡◌, ◌+◌, ◌*◌, length, get_or, pos, refl, sym, ap, ◌∙◌, arith, take_all, w32, SFits, to_z, of_z, rules}
+use Rattle.std.proofs.Common.{◌≡◌, ◌+◌, ◌*◌, length, get_or, pos, refl, ap, ◌∙◌, arith, w32, SFits, to_z, of_z, rules}
 use Rattle.std.proofs.lemmas.Int.{to_z-of_z}
 use Rattle.std.proofs.lemmas.Slice.{take-put_mid}
 use Rattle.mapping.specs.Bits.{spell, bits_of}
@@ -23,14 +23,3 @@ loop-k-preserved c =
     ap bits_of (bytes ∙ c.to_be_bytes.ensures) ∙ four_bytes (of_z w32 (to_z w32 (of_z w32 x))) ∙ ap (λ z. spell 32 (of_z w32 z)) (to_z-of_z w32 x fits) in
     let four : length ys ≡ 4 = ap length (bytes ∙ c.to_be_bytes.ensures) in
     value_written values k out _ ys c.loop-k-test.true spelled c.loop-k.invariant (take-put_mid (4 * k) _ out ys (4 * (k + 1)) (omega (arith, four)) (omega (arith, c.loop-k.auto.out, c.requires, c.loop-k-test.true)))
-
-pub returns : goal.returns
-returns c =
-    let values = c.args.values.now in
-    let k = c.loop-k.k in
-    let all : k ≡ length values = omega (arith, c.loop-k-test.false, c.loop-k.auto.k-end) in
-    record {
-      bits =
-          ap bits_of (sym (take_all (4 * k) c.loop-k.out (omega (arith, all, c.loop-k.auto.out, c.requires)))) ∙ c.loop-k.invariant
-          ∙ ap value_bits (take_all k values c.loop-k-test.false);
-    }
